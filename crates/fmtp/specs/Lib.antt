@@ -1,0 +1,4 @@
+pub mod Borrowed
+pub mod Lines
+pub mod Spellings
+pub mod Values

@@ -1,0 +1,6 @@
+//! The format line of a stream: the parameters of an `a=fmtp` clause of ST 2110-20.
+
+mod entries;
+mod records;
+mod texts;
+mod tokens;
