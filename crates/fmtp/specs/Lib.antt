@@ -1,4 +1,5 @@
 pub mod Borrowed
+pub mod Decimals
 pub mod Lines
 pub mod Spellings
 pub mod Values

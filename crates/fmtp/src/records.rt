@@ -262,3 +262,10 @@ pub impl Token for Transfer as TransferToken {
         ]
     }
 }
+
+/// Two numbers without a common divisor: a frame rate, or the width and the height of a pixel.
+#[derive(Clone, Copy, Debug, PartialEq, Eq)]
+pub struct Ratio {
+    pub numerator: u32,
+    pub denominator: u32,
+}
