@@ -39,7 +39,7 @@ written-front : (text : List ℕ) (i : ℕ) → written (take i text) ≤ writte
 written-front text i =
     let f : ℕ → ℕ = λ c. c - 0x30 in
     let whole : written text ≡ number 10 (map f (take i text) ++ map f (drop i text)) =
-        ap written (sym (take-append-drop i text)) ∙ ap (number 10) (map-append f (take i text) (drop i text)) in
+    ap written (sym (take-append-drop i text)) ∙ ap (number 10) (map-append f (take i text) (drop i text)) in
     let split = numberAfter-append 10 0 (map f (take i text)) (map f (drop i text)) in
     let grows = numberAfter-ge 10 (written (take i text)) (map f (drop i text)) (omega arith) in
     omega arith
@@ -110,7 +110,7 @@ euclid a b x pa pb px same = ⊎-elim one more (cases-eq x 1)
     one : x ≡ 1 → eqb x 1 ≡ coprime a b
     one e =
         let none : (k : ℕ) → 2 ≤ k → not (divides-both a b k) ≡ true =
-            λ k h. ap not (sym (same k) ∙ ap (λ n. eqb (n % k) 0 && eqb (0 % k) 0) e ∙ ap (λ n. eqb n 0 && eqb (0 % k) 0) (mod-eq-of-lt {n = 1} {m = k} (omega arith))) in
+        λ k h. ap not (sym (same k) ∙ ap (λ n. eqb (n % k) 0 && eqb (0 % k) 0) e ∙ ap (λ n. eqb n 0 && eqb (0 % k) 0) (mod-eq-of-lt {n = 1} {m = k} (omega arith))) in
         eq-eqb x 1 e ∙ sym (each-true (λ k. not (divides-both a b k)) none (min a b))
 
     more : (x ≡ 1 → ⊥) → eqb x 1 ≡ coprime a b

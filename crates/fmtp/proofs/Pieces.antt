@@ -17,13 +17,13 @@ pieces-split [] = refl
 pieces-split (x ∷ xs) = go (eqb x 0x3B) (ap (onto-first x) (pieces-split xs))
   where
     go : (b : Bool) → onto-first x (pieces xs) ≡ (x ∷ before 0x3B xs) ∷ pieces-behind (behind 0x3B xs)
-      → cond b ([] ∷ pieces xs) (onto-first x (pieces xs)) ≡ cond b [] (x ∷ before 0x3B xs) ∷ pieces-behind (cond b (Some xs) (behind 0x3B xs))
+        → cond b ([] ∷ pieces xs) (onto-first x (pieces xs)) ≡ cond b [] (x ∷ before 0x3B xs) ∷ pieces-behind (cond b (Some xs) (behind 0x3B xs))
     go true e = refl
     go false e = e
 
 -- one piece of a later part, which is the last where no semicolon follows
 pub later-split : (p : List ℕ) (more : Option (List ℕ))
-  → later-fit (p ∷ pieces-behind more) ≡ later-piece (not (isSome more)) p && later-fit (pieces-behind more)
+    → later-fit (p ∷ pieces-behind more) ≡ later-piece (not (isSome more)) p && later-fit (pieces-behind more)
 later-split p None = refl
 later-split p (Some xs) =
     ap (λ ps. later-fit (p ∷ ps)) (pieces-split xs) ∙ ap (λ ps. later-piece false p && later-fit ps) (sym (pieces-split xs))

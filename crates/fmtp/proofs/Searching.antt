@@ -16,8 +16,8 @@ use Rattle.fmtp.specs.Spellings.{spelled}
 
 -- what is left of a list of values, one value on
 pub spelled-more : {T : Type 0} (spelling : T → List ℕ) (vs : List T) (text : List ℕ) (i : ℕ) (v : T)
-  → i < length vs → v ≡ getD vs i v
-  → spelled spelling (drop i vs) text ≡ cond (sameBytes (spelling v) text) (Some v) (spelled spelling (drop (i + 1) vs) text)
+    → i < length vs → v ≡ getD vs i v
+    → spelled spelling (drop i vs) text ≡ cond (sameBytes (spelling v) text) (Some v) (spelled spelling (drop (i + 1) vs) text)
 spelled-more spelling vs text i v h is =
     at-drop-more (λ l. spelled spelling l text) vs i v h
     ∙ ap (λ w. cond (sameBytes (spelling w) text) (Some w) (spelled spelling (drop (i + 1) vs) text)) (sym is)

@@ -4,7 +4,18 @@ use mathlib.Core.List.{List, [], _∷_}
 use lib.Chars.{codes}
 use Rattle.fmtp.specs.declared.records.Sampling.{Sampling}
 use Rattle.fmtp.specs.declared.records.Sampling.the-variants.{
-  YCbCr444, YCbCr422, YCbCr420, ClYCbCr444, ClYCbCr422, ClYCbCr420, ICtCp444, ICtCp422, ICtCp420, Rgb, Xyz, Key
+  YCbCr444,
+  YCbCr422,
+  YCbCr420,
+  ClYCbCr444,
+  ClYCbCr422,
+  ClYCbCr420,
+  ICtCp444,
+  ICtCp422,
+  ICtCp420,
+  Rgb,
+  Xyz,
+  Key,
 }
 use Rattle.fmtp.specs.declared.records.Depth.{Depth}
 use Rattle.fmtp.specs.declared.records.Depth.the-variants.{Bits8, Bits10, Bits12, Bits16, Float16}

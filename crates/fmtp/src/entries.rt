@@ -20,14 +20,21 @@ impl<'a> Entry<'a> {
     pub fn parse(text: &'a [u8]) -> Option<Entry<'a>>
         ensures { λ r. ⌜ mapped text-of r ≡ entry-of (now (text .entry)) ⌝ }
     {
-        let Split { front: name, rest: value } = split_at_first(text, b'=');
+        let Split {
+            front: name,
+            rest: value,
+        } = split_at_first(text, b'=');
         if !all_visible(text) || name.is_empty() {
             return None;
         }
         let Some(value) = value else {
             return Some(Entry::Flag(name));
         };
-        if value.is_empty() { None } else { Some(Entry::Pair(name, value)) }
+        if value.is_empty() {
+            None
+        } else {
+            Some(Entry::Pair(name, value))
+        }
     }
 
     pub fn name(&self) -> &'a [u8]

@@ -44,7 +44,10 @@ pub fn ratio(text: &[u8], separator: u8, limit: u32) -> Option<Ratio>
     if !is_coprime(numerator, denominator) {
         return None;
     }
-    Some(Ratio { numerator, denominator })
+    Some(Ratio {
+        numerator,
+        denominator,
+    })
 }
 
 /// Frames a second: a whole number, or a fraction.
@@ -53,10 +56,17 @@ pub fn frame_rate(text: &[u8]) -> Option<Ratio>
 {
     const LIMIT: u32 = 999_999;
     if let Some(numerator) = decimal(text, LIMIT) {
-        return Some(Ratio { numerator, denominator: 1 });
+        return Some(Ratio {
+            numerator,
+            denominator: 1,
+        });
     }
     let rate = ratio(text, b'/', LIMIT)?;
-    if rate.denominator > 1 { Some(rate) } else { None }
+    if rate.denominator > 1 {
+        Some(rate)
+    } else {
+        None
+    }
 }
 
 // Whether no number above 1 divides both, by Euclid's algorithm.

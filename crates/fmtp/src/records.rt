@@ -2,9 +2,22 @@
 
 ghost use mathlib.Core.Path.{_≡_};
 ghost use Rattle.fmtp.specs.Values.{
-    sampling-text, samplings, depth-text, depths, colorimetry-text, colorimetries, packing-text, packings, edition-text, editions,
-    range-text, ranges, transfer-text, transfers,
+  sampling-text,
+  samplings,
+  depth-text,
+  depths,
+  colorimetry-text,
+  colorimetries,
+  packing-text,
+  packings,
+  edition-text,
+  editions,
+  range-text,
+  ranges,
+  transfer-text,
+  transfers,
 };
+ghost use Rattle.fmtp.specs.Records.{transfer-told, range-told, max-udp-told, pixel-aspect-told, at-odds, new-in-2022};
 use crate::tokens::Token;
 
 /// The color components of a pixel, and how their planes are sampled.
@@ -26,6 +39,7 @@ pub enum Sampling {
 
 pub impl Token for Sampling as SamplingToken {
     ghost spelling = { sampling-text };
+
     ghost values = { samplings };
 
     fn text(&self) -> &'static str {
@@ -75,6 +89,7 @@ pub enum Depth {
 
 pub impl Token for Depth as DepthToken {
     ghost spelling = { depth-text };
+
     ghost values = { depths };
 
     fn text(&self) -> &'static str {
@@ -88,7 +103,13 @@ pub impl Token for Depth as DepthToken {
     }
 
     fn all() -> &'static [Depth] {
-        &[Depth::Bits8, Depth::Bits10, Depth::Bits12, Depth::Bits16, Depth::Float16]
+        &[
+            Depth::Bits8,
+            Depth::Bits10,
+            Depth::Bits12,
+            Depth::Bits16,
+            Depth::Float16,
+        ]
     }
 }
 
@@ -108,6 +129,7 @@ pub enum Colorimetry {
 
 pub impl Token for Colorimetry as ColorimetryToken {
     ghost spelling = { colorimetry-text };
+
     ghost values = { colorimetries };
 
     fn text(&self) -> &'static str {
@@ -148,6 +170,7 @@ pub enum PackingMode {
 
 pub impl Token for PackingMode as PackingModeToken {
     ghost spelling = { packing-text };
+
     ghost values = { packings };
 
     fn text(&self) -> &'static str {
@@ -171,6 +194,7 @@ pub enum Edition {
 
 pub impl Token for Edition as EditionToken {
     ghost spelling = { edition-text };
+
     ghost values = { editions };
 
     fn text(&self) -> &'static str {
@@ -195,6 +219,7 @@ pub enum Range {
 
 pub impl Token for Range as RangeToken {
     ghost spelling = { range-text };
+
     ghost values = { ranges };
 
     fn text(&self) -> &'static str {
@@ -228,6 +253,7 @@ pub enum Transfer {
 
 pub impl Token for Transfer as TransferToken {
     ghost spelling = { transfer-text };
+
     ghost values = { transfers };
 
     fn text(&self) -> &'static str {
@@ -268,4 +294,72 @@ pub impl Token for Transfer as TransferToken {
 pub struct Ratio {
     pub numerator: u32,
     pub denominator: u32,
+}
+
+/// The parameters of a format line. What the line leaves out is `None`; the `_or_default` questions tell what then holds.
+#[derive(Clone, Copy, Debug, PartialEq, Eq)]
+pub struct Record {
+    pub sampling: Sampling,
+    pub depth: Depth,
+    pub width: u32,
+    pub height: u32,
+    pub frame_rate: Ratio,
+    pub colorimetry: Colorimetry,
+    pub packing: PackingMode,
+    pub edition: Edition,
+    pub interlace: bool,
+    pub segmented: bool,
+    pub transfer: Option<Transfer>,
+    pub range: Option<Range>,
+    pub max_udp: Option<u32>,
+    pub pixel_aspect: Option<Ratio>,
+}
+
+impl Record {
+    pub fn transfer_or_default(&self) -> Transfer
+        ensures { λ r. ⌜ r ≡ transfer-told (now (self .entry)) ⌝ }
+    {
+        self.transfer.unwrap_or(Transfer::Sdr)
+    }
+
+    pub fn range_or_default(&self) -> Range
+        ensures { λ r. ⌜ r ≡ range-told (now (self .entry)) ⌝ }
+    {
+        self.range.unwrap_or(Range::Narrow)
+    }
+
+    /// The largest UDP datagram, in octets with its header.
+    pub fn max_udp_or_default(&self) -> u32
+        ensures { λ r. ⌜ r ≡ max-udp-told (now (self .entry)) ⌝ }
+    {
+        self.max_udp.unwrap_or(1460)
+    }
+
+    /// The width of a pixel to its height.
+    pub fn pixel_aspect_or_default(&self) -> Ratio
+        ensures { λ r. ⌜ r ≡ pixel-aspect-told (now (self .entry)) ⌝ }
+    {
+        self.pixel_aspect.unwrap_or(Ratio {
+            numerator: 1,
+            denominator: 1,
+        })
+    }
+
+    // Whether two parameters contradict each other.
+    pub(crate) fn is_at_odds(&self) -> bool
+        ensures { λ r. ⌜ r ≡ at-odds (now (self .entry)) ⌝ }
+    {
+        let protected = matches!(self.range, Some(Range::FullProtect));
+        let wide = matches!(self.colorimetry, Colorimetry::Bt2100);
+        let of_2022 = matches!(self.edition, Edition::Of2022);
+        self.segmented && !self.interlace || protected && wide || of_2022 != self.is_new_in_2022()
+    }
+
+    // Whether a value came with the edition of 2022.
+    fn is_new_in_2022(&self) -> bool
+        ensures { λ r. ⌜ r ≡ new-in-2022 (now (self .entry)) ⌝ }
+    {
+        matches!(self.colorimetry, Colorimetry::Alpha)
+            || matches!(self.transfer, Some(Transfer::St2115LogS3))
+    }
 }

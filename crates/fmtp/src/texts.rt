@@ -24,10 +24,16 @@ pub fn split_at_first(text: &[u8], separator: u8) -> Split<'_>
 {
     for (i, octet) in text.iter().enumerate() {
         if *octet == separator {
-            return Split { front: &text[0..i], rest: Some(&text[i + 1..]) };
+            return Split {
+                front: &text[0..i],
+                rest: Some(&text[i + 1..]),
+            };
         }
     }
-    Split { front: text, rest: None }
+    Split {
+        front: text,
+        rest: None,
+    }
 }
 
 fn is_blank(octet: u8) -> bool

@@ -4,11 +4,11 @@ ghost use mathlib.Core.Path.{_≡_};
 ghost use mathlib.Core.List.{List};
 ghost use Prim.Native.Nat.{ℕ};
 ghost use Rattle.fmtp.specs.Spellings.{spelled};
-
 use crate::texts::same;
 
 pub trait Token: Copy {
     ghost spelling: { Self → List ℕ };
+
     ghost values: { List Self };
 
     // As the value stands in a line.

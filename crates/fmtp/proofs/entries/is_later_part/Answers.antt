@@ -11,8 +11,8 @@ returns-then-not-is-later-piece c =
     let parts = c .split-at-first .ensures in
     let last = some-mapped now (c .split-at-first .result .rest) ∙ c .is-none .ensures in
     sym (
-      c .loop-rest .inv ∙ ap (λ o. later-fit (pieces-behind (mapped now o))) (c .in-Some .is)
-      ∙ later-step (c .in-Some .text .now) _ _ (parts .front) (parts .rest) _ _ last (c .if-not-is-later-piece .ensures tt)
+    c .loop-rest .inv ∙ ap (λ o. later-fit (pieces-behind (mapped now o))) (c .in-Some .is)
+    ∙ later-step (c .in-Some .text .now) _ _ (parts .front) (parts .rest) _ _ last (c .if-not-is-later-piece .ensures tt)
     )
 
 pub loop-rest-less : need.loop-rest-less

@@ -1,0 +1,102 @@
+-- Reading a format line: the checks in their order, each over the whole line, and the record. Assumes nothing.
+use Prim.Native.Nat.{ℕ}
+use mathlib.Core.Bool.{Bool, true, false, cond, not, _&&_, _||_}
+use mathlib.Core.List.{List, [], _∷_}
+use lib.ListN.{length}
+use lib.Dec.{ltb}
+use Rattle.std.specs.declared.option.Option.{Option}
+use Rattle.std.specs.declared.option.Option.the-variants.{Some, None}
+use Rattle.std.specs.declared.result.Result.{Result}
+use Rattle.std.specs.declared.result.Result.the-variants.{Ok, Err}
+use Rattle.std.specs.Options.{isSome}
+use Rattle.std.specs.shelf.Text.{sameBytes}
+use Rattle.fmtp.specs.declared.parameters.Parameter.{Parameter}
+use Rattle.fmtp.specs.declared.parameters.Parameter.the-variants as name
+use Rattle.fmtp.specs.declared.records.Record.{Record}
+use Rattle.fmtp.specs.Decimals.{then, rate-of}
+use Rattle.fmtp.specs.Lines.{Entry-text, entries, well-formed}
+use Rattle.fmtp.specs.Parameters.{parameter-text, parameter-of, size-of, max-udp-of, aspect-of, permitted}
+use Rattle.fmtp.specs.Records.{at-odds}
+use Rattle.fmtp.specs.Spellings.{spelled}
+use Rattle.fmtp.specs.Values.{
+  sampling-text,
+  samplings,
+  depth-text,
+  depths,
+  colorimetry-text,
+  colorimetries,
+  packing-text,
+  packings,
+  edition-text,
+  editions,
+  transfer-text,
+  transfers,
+  range-text,
+  ranges,
+}
+
+-- 20: over 1,024 octets
+abbrev pub too-long : List ℕ → Bool
+too-long line = ltb 1024 (length line)
+
+-- some entry has the name
+abbrev pub named : List ℕ → List Entry-text → Bool
+named n [] = false
+named n (e ∷ es) = sameBytes (e .name) n || named n es
+
+-- 22: a known name comes twice
+abbrev pub repeated : List Entry-text → Bool
+repeated [] = false
+repeated (e ∷ es) = (isSome (parameter-of (e .name)) && named (e .name) es) || repeated es
+
+-- 23, where it fails: every known name has a value that it may have
+abbrev pub all-permitted : List Entry-text → Bool
+all-permitted [] = true
+all-permitted (e ∷ es) = permitted e && all-permitted es
+
+-- the value of the first entry of a name
+abbrev pub value-of : Parameter → List Entry-text → Option (List ℕ)
+value-of p [] = None
+value-of p (e ∷ es) = cond (sameBytes (e .name) (parameter-text p)) (e .value) (value-of p es)
+
+-- the record that entries give; 24: nothing where a required name is missing
+abbrev pub record-of : List Entry-text → Option Record
+record-of es =
+    then (then (value-of name.Sampling es) (spelled sampling-text samplings)) (λ sampling.
+    then (then (value-of name.Depth es) (spelled depth-text depths)) (λ depth.
+    then (then (value-of name.Width es) size-of) (λ width.
+    then (then (value-of name.Height es) size-of) (λ height.
+    then (then (value-of name.FrameRate es) rate-of) (λ frame-rate.
+    then (then (value-of name.Colorimetry es) (spelled colorimetry-text colorimetries)) (λ colorimetry.
+    then (then (value-of name.Packing es) (spelled packing-text packings)) (λ packing.
+    then (then (value-of name.Edition es) (spelled edition-text editions)) (λ edition.
+    Some (record {
+      sampling = sampling;
+      depth = depth;
+      width = width;
+      height = height;
+      «frame_rate» = frame-rate;
+      colorimetry = colorimetry;
+      packing = packing;
+      edition = edition;
+      interlace = named (parameter-text name.Interlace) es;
+      segmented = named (parameter-text name.Segmented) es;
+      transfer = then (value-of name.Transfer es) (spelled transfer-text transfers);
+      range = then (value-of name.Range es) (spelled range-text ranges);
+      «max_udp» = then (value-of name.MaxUdp es) max-udp-of;
+      «pixel_aspect» = then (value-of name.PixelAspect es) aspect-of;
+    })))))))))
+
+-- 25: parameters contradict each other
+abbrev pub consistent : Option Record → Result Record ℕ
+consistent None = Err 24
+consistent (Some r) = cond (at-odds r) (Err 25) (Ok r)
+
+-- what a line announces, or the number of the first check that fails
+abbrev pub reading : List ℕ → Result Record ℕ
+reading line =
+    cond (too-long line) (Err 20)
+    (cond (not (well-formed line)) (Err 21)
+    (cond (repeated (entries line)) (Err 22)
+    (cond (not (all-permitted (entries line))) (Err 23)
+    (consistent (record-of (entries line))))))

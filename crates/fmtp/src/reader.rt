@@ -1,0 +1,168 @@
+//! Reads a format line: the checks, each over the whole line, and the record.
+
+ghost use mathlib.Core.Path.{_≡_};
+ghost use Rattle.std.specs.Options.{mapped};
+ghost use Rattle.refusals.specs.Numbers.{numbered};
+ghost use Rattle.fmtp.specs.Borrowed.{remaining};
+ghost use Rattle.fmtp.specs.Decimals.{then, rate-of};
+ghost use Rattle.fmtp.specs.Spellings.{spelled};
+ghost use Rattle.fmtp.specs.Parameters.{size-of, max-udp-of, aspect-of};
+ghost use Rattle.fmtp.specs.declared.parameters.Parameter.the-variants.{FrameRate, MaxUdp, PixelAspect};
+ghost use Rattle.fmtp.specs.Reading.{named, repeated, all-permitted, value-of, record-of, reading};
+use crate::entries::Entries;
+use crate::entries::is_well_formed;
+use crate::numbers::frame_rate;
+use crate::parameters::Parameter;
+use crate::parameters::ParameterToken;
+use crate::parameters::is_permitted;
+use crate::parameters::max_udp;
+use crate::parameters::pixel_aspect;
+use crate::parameters::size;
+use crate::records::ColorimetryToken;
+use crate::records::DepthToken;
+use crate::records::EditionToken;
+use crate::records::PackingModeToken;
+use crate::records::RangeToken;
+use crate::records::Ratio;
+use crate::records::Record;
+use crate::records::SamplingToken;
+use crate::records::TransferToken;
+use crate::texts::same;
+use crate::tokens::Token;
+use crate::tokens::recognised;
+use refusals::Refusal;
+
+/// The longest line that is read, in octets.
+pub const MAX_LINE: usize = 1024;
+
+/// The record that a format line announces, or the first check that fails.
+pub fn read(line: &[u8]) -> Result<Record, Refusal>
+    ensures { λ r. ⌜ numbered r ≡ reading (now (line .entry)) ⌝ }
+{
+    if line.len() > MAX_LINE {
+        return Err(Refusal::LineTooLong);
+    }
+    if !is_well_formed(line) {
+        return Err(Refusal::EntryMalformed);
+    }
+    let entries = Entries::of(line);
+    if is_repetitive(entries) {
+        return Err(Refusal::NameRepeated);
+    }
+    if !is_all_permitted(entries) {
+        return Err(Refusal::ValueNotPermitted);
+    }
+    let Some(record) = record_from(entries) else {
+        return Err(Refusal::NameMissing);
+    };
+    if record.is_at_odds() {
+        return Err(Refusal::NamesAtOdds);
+    }
+    Ok(record)
+}
+
+// Whether a known name comes twice.
+fn is_repetitive(entries: Entries) -> bool
+    ensures { λ r. ⌜ r ≡ repeated (remaining (entries .entry)) ⌝ }
+{
+    let mut rest = entries;
+    while let Some(entry) = rest.next() {
+        let name = entry.name();
+        if recognised::<Parameter>(name).is_some() && is_named(rest, name) {
+            return true;
+        }
+    }
+    false
+}
+
+// Whether an entry has the name.
+fn is_named(entries: Entries, name: &[u8]) -> bool
+    ensures { λ r. ⌜ r ≡ named (now (name .entry)) (remaining (entries .entry)) ⌝ }
+{
+    let mut rest = entries;
+    while let Some(entry) = rest.next() {
+        if same(entry.name(), name) {
+            return true;
+        }
+    }
+    false
+}
+
+// Whether every known name has a value that it may have.
+fn is_all_permitted(entries: Entries) -> bool
+    ensures { λ r. ⌜ r ≡ all-permitted (remaining (entries .entry)) ⌝ }
+{
+    let mut rest = entries;
+    while let Some(entry) = rest.next() {
+        if !is_permitted(&entry) {
+            return false;
+        }
+    }
+    true
+}
+
+// The value of the first entry of a name.
+fn value_of<'a>(entries: Entries<'a>, parameter: Parameter) -> Option<&'a [u8]>
+    ensures { λ r. ⌜ mapped now r ≡ value-of parameter (remaining (entries .entry)) ⌝ }
+{
+    let mut rest = entries;
+    while let Some(entry) = rest.next() {
+        if same(entry.name(), parameter.text().as_bytes()) {
+            return entry.value();
+        }
+    }
+    None
+}
+
+// The value of a parameter that is spelled as one of a list of texts.
+fn token<T: Token + 'static>(entries: Entries, parameter: Parameter) -> Option<T>
+    ensures { λ r. ⌜ r ≡ then (value-of parameter (remaining (entries .entry))) (spelled (T·Token .spelling) (T·Token .values)) ⌝ }
+{
+    recognised(value_of(entries, parameter)?)
+}
+
+fn size_of(entries: Entries, parameter: Parameter) -> Option<u32>
+    ensures { λ r. ⌜ r ≡ then (value-of parameter (remaining (entries .entry))) size-of ⌝ }
+{
+    size(value_of(entries, parameter)?)
+}
+
+fn frame_rate_of(entries: Entries) -> Option<Ratio>
+    ensures { λ r. ⌜ r ≡ then (value-of FrameRate (remaining (entries .entry))) rate-of ⌝ }
+{
+    frame_rate(value_of(entries, Parameter::FrameRate)?)
+}
+
+fn max_udp_of(entries: Entries) -> Option<u32>
+    ensures { λ r. ⌜ r ≡ then (value-of MaxUdp (remaining (entries .entry))) max-udp-of ⌝ }
+{
+    max_udp(value_of(entries, Parameter::MaxUdp)?)
+}
+
+fn pixel_aspect_of(entries: Entries) -> Option<Ratio>
+    ensures { λ r. ⌜ r ≡ then (value-of PixelAspect (remaining (entries .entry))) aspect-of ⌝ }
+{
+    pixel_aspect(value_of(entries, Parameter::PixelAspect)?)
+}
+
+// The record that entries give, unless a required one is missing.
+fn record_from(entries: Entries) -> Option<Record>
+    ensures { λ r. ⌜ r ≡ record-of (remaining (entries .entry)) ⌝ }
+{
+    Some(Record {
+        sampling: token(entries, Parameter::Sampling)?,
+        depth: token(entries, Parameter::Depth)?,
+        width: size_of(entries, Parameter::Width)?,
+        height: size_of(entries, Parameter::Height)?,
+        frame_rate: frame_rate_of(entries)?,
+        colorimetry: token(entries, Parameter::Colorimetry)?,
+        packing: token(entries, Parameter::Packing)?,
+        edition: token(entries, Parameter::Edition)?,
+        interlace: is_named(entries, b"interlace"),
+        segmented: is_named(entries, b"segmented"),
+        transfer: token(entries, Parameter::Transfer),
+        range: token(entries, Parameter::Range),
+        max_udp: max_udp_of(entries),
+        pixel_aspect: pixel_aspect_of(entries),
+    })
+}
