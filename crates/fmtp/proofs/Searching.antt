@@ -5,14 +5,17 @@ use mathlib.Core.Path.{_≡_, refl, sym, ap, _∙_}
 use mathlib.Core.Bool.{Bool, true, false, cond, _&&_, _||_}
 use mathlib.Core.List.{List, [], _∷_, _++_, append-assoc, append-nil}
 use lib.ListN.{length, getD, take, drop}
-use lib.Dec.{eqb}
+use lib.Dec.{eqb, ltb}
 use Rattle.std.specs.declared.option.Option.{Option}
 use Rattle.std.specs.declared.option.Option.the-variants.{Some, None}
 use Rattle.std.specs.shelf.Text.{sameBytes}
 use Rattle.std.proofs.shelf.Lists.{at-drop-more, at-drop-all, take-more, take-all}
 use Rattle.std.proofs.shelf.Tests.{cond-true, cond-false, eq-eqb, ne-eqb}
-use Rattle.fmtp.specs.Lines.{before, behind, blank, trimmed, every}
+use Rattle.fmtp.specs.Lines.{Entry-text, before, behind, blank, trimmed, every}
+use Rattle.fmtp.specs.Parameters.{parameter-text}
+use Rattle.fmtp.specs.Reading.{times, some-twice}
 use Rattle.fmtp.specs.Spellings.{spelled}
+use Rattle.fmtp.specs.declared.parameters.Parameter.{Parameter}
 
 -- what is left of a list of values, one value on
 pub spelled-more : {T : Type 0} (spelling : T → List ℕ) (vs : List T) (text : List ℕ) (i : ℕ) (v : T)
@@ -73,3 +76,8 @@ every-passed test xs i h e = at-drop-more (every test) xs i 0 h ∙ ap (λ b. b 
 
 pub every-failed : (test : ℕ → Bool) (xs : List ℕ) (i : ℕ) → i < length xs → test (getD xs i 0) ≡ false → every test (drop i xs) ≡ false
 every-failed test xs i h e = at-drop-more (every test) xs i 0 h ∙ ap (λ b. b && every test (drop (i + 1) xs)) e
+
+-- what is left of a list of parameters, one on
+pub twice-more : (ps : List Parameter) (es : List Entry-text) (i : ℕ) (p : Parameter)
+    → i < length ps → some-twice (drop i ps) es ≡ ltb 1 (times (parameter-text (getD ps i p)) es) || some-twice (drop (i + 1) ps) es
+twice-more ps es i p h = at-drop-more (λ l. some-twice l es) ps i p h

@@ -1,5 +1,5 @@
 -- Reading a format line: the checks in their order, each over the whole line, and the record. Assumes nothing.
-use Prim.Native.Nat.{ℕ}
+use Prim.Native.Nat.{ℕ, _+_}
 use mathlib.Core.Bool.{Bool, true, false, cond, not, _&&_, _||_}
 use mathlib.Core.List.{List, [], _∷_}
 use lib.ListN.{length}
@@ -15,7 +15,7 @@ use Rattle.fmtp.specs.declared.parameters.Parameter.the-variants as name
 use Rattle.fmtp.specs.declared.records.Record.{Record}
 use Rattle.fmtp.specs.Decimals.{then, rate-of}
 use Rattle.fmtp.specs.Lines.{Entry-text, entries, well-formed}
-use Rattle.fmtp.specs.Parameters.{parameter-text, parameter-of, size-of, max-udp-of, aspect-of, permitted}
+use Rattle.fmtp.specs.Parameters.{parameter-text, parameters, size-of, max-udp-of, aspect-of, permitted}
 use Rattle.fmtp.specs.Records.{at-odds}
 use Rattle.fmtp.specs.Spellings.{spelled}
 use Rattle.fmtp.specs.Values.{
@@ -39,25 +39,40 @@ use Rattle.fmtp.specs.Values.{
 abbrev pub too-long : List ℕ → Bool
 too-long line = ltb 1024 (length line)
 
--- some entry has the name
-abbrev pub named : List ℕ → List Entry-text → Bool
-named n [] = false
-named n (e ∷ es) = sameBytes (e .name) n || named n es
+-- whether an entry has the name
+abbrev pub has-name : List ℕ → Entry-text → Bool
+has-name n e = sameBytes (e .name) n
+
+-- how often a name comes
+abbrev pub times : List ℕ → List Entry-text → ℕ
+times n [] = 0
+times n (e ∷ es) = cond (has-name n e) 1 0 + times n es
+
+-- the first entry of a name
+abbrev pub find : List ℕ → List Entry-text → Option Entry-text
+find n [] = None
+find n (e ∷ es) = cond (has-name n e) (Some e) (find n es)
+
+abbrev pub some-twice : List Parameter → List Entry-text → Bool
+some-twice [] es = false
+some-twice (p ∷ ps) es = ltb 1 (times (parameter-text p) es) || some-twice ps es
 
 -- 22: a known name comes twice
 abbrev pub repeated : List Entry-text → Bool
-repeated [] = false
-repeated (e ∷ es) = (isSome (parameter-of (e .name)) && named (e .name) es) || repeated es
+repeated es = some-twice parameters es
 
 -- 23, where it fails: every known name has a value that it may have
 abbrev pub all-permitted : List Entry-text → Bool
 all-permitted [] = true
 all-permitted (e ∷ es) = permitted e && all-permitted es
 
--- the value of the first entry of a name
+-- the value of a parameter
 abbrev pub value-of : Parameter → List Entry-text → Option (List ℕ)
-value-of p [] = None
-value-of p (e ∷ es) = cond (sameBytes (e .name) (parameter-text p)) (e .value) (value-of p es)
+value-of p es = then (find (parameter-text p) es) (λ e. e .value)
+
+-- whether a flag is there
+abbrev pub flagged : Parameter → List Entry-text → Bool
+flagged p es = isSome (find (parameter-text p) es)
 
 -- the record that entries give; 24: nothing where a required name is missing
 abbrev pub record-of : List Entry-text → Option Record
@@ -79,8 +94,8 @@ record-of es =
       colorimetry = colorimetry;
       packing = packing;
       edition = edition;
-      interlace = named (parameter-text name.Interlace) es;
-      segmented = named (parameter-text name.Segmented) es;
+      interlace = flagged name.Interlace es;
+      segmented = flagged name.Segmented es;
       transfer = then (value-of name.Transfer es) (spelled transfer-text transfers);
       range = then (value-of name.Range es) (spelled range-text ranges);
       «max_udp» = then (value-of name.MaxUdp es) max-udp-of;
@@ -92,11 +107,16 @@ abbrev pub consistent : Option Record → Result Record ℕ
 consistent None = Err 24
 consistent (Some r) = cond (at-odds r) (Err 25) (Ok r)
 
+-- what entries announce, or the number of the first check that fails
+abbrev pub reading-entries : List Entry-text → Result Record ℕ
+reading-entries es =
+    cond (repeated es) (Err 22)
+    (cond (not (all-permitted es)) (Err 23)
+    (consistent (record-of es)))
+
 -- what a line announces, or the number of the first check that fails
 abbrev pub reading : List ℕ → Result Record ℕ
 reading line =
     cond (too-long line) (Err 20)
     (cond (not (well-formed line)) (Err 21)
-    (cond (repeated (entries line)) (Err 22)
-    (cond (not (all-permitted (entries line))) (Err 23)
-    (consistent (record-of (entries line))))))
+    (reading-entries (entries line)))

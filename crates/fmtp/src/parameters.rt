@@ -3,6 +3,7 @@
 ghost use mathlib.Core.Path.{_≡_};
 ghost use Rattle.fmtp.specs.Parameters.{parameter-text, parameters, is-flag, accepts, max-udp-of, size-of, aspect-of, permitted};
 ghost use Rattle.fmtp.specs.Borrowed.{text-of};
+ghost use Rattle.fmtp.specs.Reading.{has-name};
 use crate::entries::Entry;
 use crate::numbers::decimal;
 use crate::numbers::frame_rate;
@@ -117,6 +118,15 @@ impl Parameter {
             Parameter::MaxUdp => max_udp(value).is_some(),
             Parameter::PixelAspect => pixel_aspect(value).is_some(),
         }
+    }
+}
+
+impl Entry<'_> {
+    /// Whether the entry has the parameter's name.
+    pub fn is_of(&self, parameter: Parameter) -> bool
+        ensures { λ r. ⌜ r ≡ has-name (parameter-text parameter) (text-of (now (self .entry))) ⌝ }
+    {
+        same(self.name(), parameter.text().as_bytes())
     }
 }
 

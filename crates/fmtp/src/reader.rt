@@ -1,15 +1,17 @@
 //! Reads a format line: the checks, each over the whole line, and the record.
 
 ghost use mathlib.Core.Path.{_≡_};
+ghost use lib.Dec.{ltb};
 ghost use Rattle.std.specs.Options.{mapped};
 ghost use Rattle.refusals.specs.Numbers.{numbered};
-ghost use Rattle.fmtp.specs.Borrowed.{remaining};
+ghost use Rattle.fmtp.specs.Borrowed.{text-of, remaining};
 ghost use Rattle.fmtp.specs.Decimals.{then, rate-of};
 ghost use Rattle.fmtp.specs.Spellings.{spelled};
-ghost use Rattle.fmtp.specs.Parameters.{size-of, max-udp-of, aspect-of};
+ghost use Rattle.fmtp.specs.Parameters.{parameter-text, size-of, max-udp-of, aspect-of};
 ghost use Rattle.fmtp.specs.declared.parameters.Parameter.the-variants.{FrameRate, MaxUdp, PixelAspect};
-ghost use Rattle.fmtp.specs.Reading.{named, repeated, all-permitted, value-of, record-of, reading};
+ghost use Rattle.fmtp.specs.Reading.{times, repeated, all-permitted, find, value-of, flagged, record-of, reading};
 use crate::entries::Entries;
+use crate::entries::Entry;
 use crate::entries::is_well_formed;
 use crate::numbers::frame_rate;
 use crate::parameters::Parameter;
@@ -27,7 +29,6 @@ use crate::records::Ratio;
 use crate::records::Record;
 use crate::records::SamplingToken;
 use crate::records::TransferToken;
-use crate::texts::same;
 use crate::tokens::Token;
 use crate::tokens::recognised;
 use refusals::Refusal;
@@ -65,24 +66,26 @@ pub fn read(line: &[u8]) -> Result<Record, Refusal>
 fn is_repetitive(entries: Entries) -> bool
     ensures { λ r. ⌜ r ≡ repeated (remaining (entries .entry)) ⌝ }
 {
-    let mut rest = entries;
-    while let Some(entry) = rest.next() {
-        let name = entry.name();
-        if recognised::<Parameter>(name).is_some() && is_named(rest, name) {
+    let all = Parameter::all();
+    for parameter in all {
+        if is_twice(entries, *parameter) {
             return true;
         }
     }
     false
 }
 
-// Whether an entry has the name.
-fn is_named(entries: Entries, name: &[u8]) -> bool
-    ensures { λ r. ⌜ r ≡ named (now (name .entry)) (remaining (entries .entry)) ⌝ }
+fn is_twice(entries: Entries, parameter: Parameter) -> bool
+    ensures { λ r. ⌜ r ≡ ltb 1 (times (parameter-text parameter) (remaining (entries .entry))) ⌝ }
 {
     let mut rest = entries;
+    let mut seen = false;
     while let Some(entry) = rest.next() {
-        if same(entry.name(), name) {
-            return true;
+        if entry.is_of(parameter) {
+            if seen {
+                return true;
+            }
+            seen = true;
         }
     }
     false
@@ -101,17 +104,29 @@ fn is_all_permitted(entries: Entries) -> bool
     true
 }
 
-// The value of the first entry of a name.
-fn value_of<'a>(entries: Entries<'a>, parameter: Parameter) -> Option<&'a [u8]>
-    ensures { λ r. ⌜ mapped now r ≡ value-of parameter (remaining (entries .entry)) ⌝ }
+// The first entry of a name.
+fn find_entry<'a>(entries: Entries<'a>, parameter: Parameter) -> Option<Entry<'a>>
+    ensures { λ r. ⌜ mapped text-of r ≡ find (parameter-text parameter) (remaining (entries .entry)) ⌝ }
 {
     let mut rest = entries;
     while let Some(entry) = rest.next() {
-        if same(entry.name(), parameter.text().as_bytes()) {
-            return entry.value();
+        if entry.is_of(parameter) {
+            return Some(entry);
         }
     }
     None
+}
+
+fn value_of<'a>(entries: Entries<'a>, parameter: Parameter) -> Option<&'a [u8]>
+    ensures { λ r. ⌜ mapped now r ≡ value-of parameter (remaining (entries .entry)) ⌝ }
+{
+    find_entry(entries, parameter)?.value()
+}
+
+fn is_flagged(entries: Entries, parameter: Parameter) -> bool
+    ensures { λ r. ⌜ r ≡ flagged parameter (remaining (entries .entry)) ⌝ }
+{
+    find_entry(entries, parameter).is_some()
 }
 
 // The value of a parameter that is spelled as one of a list of texts.
@@ -158,8 +173,8 @@ fn record_from(entries: Entries) -> Option<Record>
         colorimetry: token(entries, Parameter::Colorimetry)?,
         packing: token(entries, Parameter::Packing)?,
         edition: token(entries, Parameter::Edition)?,
-        interlace: is_named(entries, b"interlace"),
-        segmented: is_named(entries, b"segmented"),
+        interlace: is_flagged(entries, Parameter::Interlace),
+        segmented: is_flagged(entries, Parameter::Segmented),
         transfer: token(entries, Parameter::Transfer),
         range: token(entries, Parameter::Range),
         max_udp: max_udp_of(entries),

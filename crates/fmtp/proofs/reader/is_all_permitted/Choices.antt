@@ -4,7 +4,6 @@ use Rattle.fmtp.specs.Borrowed.{remaining}
 use Rattle.fmtp.specs.Reading.{all-permitted}
 use Rattle.fmtp.proofs.reader.is_all_permitted.Given as given
 
--- the entries that were passed do not decide, so that all depends on the others
 abbrev pub Inv-loop-entry : given.InvT-loop-entry
 Inv-loop-entry l = all-permitted (remaining (l .entries)) ≡ all-permitted (remaining (l .rest))
 
