@@ -4,5 +4,6 @@ pub mod Lines
 pub mod Parameters
 pub mod Reading
 pub mod Records
+pub mod Same
 pub mod Spellings
 pub mod Values

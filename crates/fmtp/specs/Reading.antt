@@ -66,25 +66,28 @@ abbrev pub all-permitted : List Entry-text → Bool
 all-permitted [] = true
 all-permitted (e ∷ es) = permitted e && all-permitted es
 
--- the value of a parameter
-abbrev pub value-of : Parameter → List Entry-text → Option (List ℕ)
-value-of p es = then (find (parameter-text p) es) (λ e. e .value)
+-- the entry of each parameter
+abbrev pub entry-in : List Entry-text → Parameter → Option Entry-text
+entry-in es p = find (parameter-text p) es
+
+abbrev pub value-of : Parameter → (Parameter → Option Entry-text) → Option (List ℕ)
+value-of p at = then (at p) (λ e. e .value)
 
 -- whether a flag is there
-abbrev pub flagged : Parameter → List Entry-text → Bool
-flagged p es = isSome (find (parameter-text p) es)
+abbrev pub flagged : Parameter → (Parameter → Option Entry-text) → Bool
+flagged p at = isSome (at p)
 
--- the record that entries give; 24: nothing where a required name is missing
-abbrev pub record-of : List Entry-text → Option Record
-record-of es =
-    then (then (value-of name.Sampling es) (spelled sampling-text samplings)) (λ sampling.
-    then (then (value-of name.Depth es) (spelled depth-text depths)) (λ depth.
-    then (then (value-of name.Width es) size-of) (λ width.
-    then (then (value-of name.Height es) size-of) (λ height.
-    then (then (value-of name.FrameRate es) rate-of) (λ frame-rate.
-    then (then (value-of name.Colorimetry es) (spelled colorimetry-text colorimetries)) (λ colorimetry.
-    then (then (value-of name.Packing es) (spelled packing-text packings)) (λ packing.
-    then (then (value-of name.Edition es) (spelled edition-text editions)) (λ edition.
+-- the record that the entries of the parameters give; 24: nothing where a required one is missing
+abbrev pub record-of : (Parameter → Option Entry-text) → Option Record
+record-of at =
+    then (then (value-of name.Sampling at) (spelled sampling-text samplings)) (λ sampling.
+    then (then (value-of name.Depth at) (spelled depth-text depths)) (λ depth.
+    then (then (value-of name.Width at) size-of) (λ width.
+    then (then (value-of name.Height at) size-of) (λ height.
+    then (then (value-of name.FrameRate at) rate-of) (λ frame-rate.
+    then (then (value-of name.Colorimetry at) (spelled colorimetry-text colorimetries)) (λ colorimetry.
+    then (then (value-of name.Packing at) (spelled packing-text packings)) (λ packing.
+    then (then (value-of name.Edition at) (spelled edition-text editions)) (λ edition.
     Some (record {
       sampling = sampling;
       depth = depth;
@@ -94,12 +97,12 @@ record-of es =
       colorimetry = colorimetry;
       packing = packing;
       edition = edition;
-      interlace = flagged name.Interlace es;
-      segmented = flagged name.Segmented es;
-      transfer = then (value-of name.Transfer es) (spelled transfer-text transfers);
-      range = then (value-of name.Range es) (spelled range-text ranges);
-      «max_udp» = then (value-of name.MaxUdp es) max-udp-of;
-      «pixel_aspect» = then (value-of name.PixelAspect es) aspect-of;
+      interlace = flagged name.Interlace at;
+      segmented = flagged name.Segmented at;
+      transfer = then (value-of name.Transfer at) (spelled transfer-text transfers);
+      range = then (value-of name.Range at) (spelled range-text ranges);
+      «max_udp» = then (value-of name.MaxUdp at) max-udp-of;
+      «pixel_aspect» = then (value-of name.PixelAspect at) aspect-of;
     })))))))))
 
 -- 25: parameters contradict each other
@@ -112,7 +115,7 @@ abbrev pub reading-entries : List Entry-text → Result Record ℕ
 reading-entries es =
     cond (repeated es) (Err 22)
     (cond (not (all-permitted es)) (Err 23)
-    (consistent (record-of es)))
+    (consistent (record-of (entry-in es))))
 
 -- what a line announces, or the number of the first check that fails
 abbrev pub reading : List ℕ → Result Record ℕ
