@@ -1,6 +1,7 @@
 //! The format line of a stream: the parameters of an `a=fmtp` clause of ST 2110-20.
 //! `read` answers the record that a line announces, or the first check that fails; its contract is `reading` of `specs/`.
 
+mod display;
 mod entries;
 mod numbers;
 mod parameters;
@@ -9,6 +10,7 @@ mod records;
 mod texts;
 mod tokens;
 
+pub use display::RecordDisplay;
 pub use reader::MAX_LINE;
 pub use reader::read;
 pub use records::Colorimetry;
