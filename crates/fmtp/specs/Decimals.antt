@@ -8,7 +8,7 @@ use Rattle.std.specs.declared.option.Option.{Option}
 use Rattle.std.specs.declared.option.Option.the-variants.{Some, None}
 use Rattle.std.specs.shelf.Digits.{number}
 use Rattle.fmtp.specs.Lines.{before, behind, empty, every}
-use Rattle.fmtp.specs.declared.records.Ratio.{Ratio}
+use Rattle.records.specs.declared.Ratio.{Ratio}
 
 -- what is read in two steps
 abbrev pub then : {A B : Type 0} → Option A → (A → Option B) → Option B

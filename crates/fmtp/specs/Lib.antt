@@ -3,7 +3,7 @@ pub mod Decimals
 pub mod Lines
 pub mod Parameters
 pub mod Reading
-pub mod Records
+pub mod Consistency
 pub mod Same
 pub mod Spellings
 pub mod Values

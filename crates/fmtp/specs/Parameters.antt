@@ -24,7 +24,7 @@ use Rattle.fmtp.specs.declared.parameters.Parameter.the-variants.{
   MaxUdp,
   PixelAspect,
 }
-use Rattle.fmtp.specs.declared.records.Ratio.{Ratio}
+use Rattle.records.specs.declared.Ratio.{Ratio}
 use Rattle.fmtp.specs.Decimals.{decimal-of, ratio-of, rate-of}
 use Rattle.fmtp.specs.Lines.{Entry-text}
 use Rattle.fmtp.specs.Spellings.{spelled}

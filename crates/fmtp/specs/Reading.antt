@@ -12,11 +12,11 @@ use Rattle.std.specs.Options.{isSome}
 use Rattle.std.specs.shelf.Text.{sameBytes}
 use Rattle.fmtp.specs.declared.parameters.Parameter.{Parameter}
 use Rattle.fmtp.specs.declared.parameters.Parameter.the-variants as name
-use Rattle.fmtp.specs.declared.records.Record.{Record}
+use Rattle.records.specs.declared.Record.{Record}
 use Rattle.fmtp.specs.Decimals.{then, rate-of}
 use Rattle.fmtp.specs.Lines.{Entry-text, entries, well-formed}
 use Rattle.fmtp.specs.Parameters.{parameter-text, parameters, size-of, max-udp-of, aspect-of, permitted}
-use Rattle.fmtp.specs.Records.{at-odds}
+use Rattle.fmtp.specs.Consistency.{at-odds}
 use Rattle.fmtp.specs.Spellings.{spelled}
 use Rattle.fmtp.specs.Values.{
   sampling-text,

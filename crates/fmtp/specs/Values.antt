@@ -2,8 +2,8 @@
 use Prim.Native.Nat.{ℕ}
 use mathlib.Core.List.{List, [], _∷_}
 use lib.Chars.{codes}
-use Rattle.fmtp.specs.declared.records.Sampling.{Sampling}
-use Rattle.fmtp.specs.declared.records.Sampling.the-variants.{
+use Rattle.records.specs.declared.Sampling.{Sampling}
+use Rattle.records.specs.declared.Sampling.the-variants.{
   YCbCr444,
   YCbCr422,
   YCbCr420,
@@ -17,18 +17,18 @@ use Rattle.fmtp.specs.declared.records.Sampling.the-variants.{
   Xyz,
   Key,
 }
-use Rattle.fmtp.specs.declared.records.Depth.{Depth}
-use Rattle.fmtp.specs.declared.records.Depth.the-variants.{Bits8, Bits10, Bits12, Bits16, Float16}
-use Rattle.fmtp.specs.declared.records.Colorimetry.{Colorimetry}
-use Rattle.fmtp.specs.declared.records.Colorimetry.the-variants as color
-use Rattle.fmtp.specs.declared.records.PackingMode.{PackingMode}
-use Rattle.fmtp.specs.declared.records.PackingMode.the-variants.{General, Block}
-use Rattle.fmtp.specs.declared.records.Edition.{Edition}
-use Rattle.fmtp.specs.declared.records.Edition.the-variants.{Of2017, Of2022}
-use Rattle.fmtp.specs.declared.records.Range.{Range}
-use Rattle.fmtp.specs.declared.records.Range.the-variants.{Narrow, Full, FullProtect}
-use Rattle.fmtp.specs.declared.records.Transfer.{Transfer}
-use Rattle.fmtp.specs.declared.records.Transfer.the-variants as curve
+use Rattle.records.specs.declared.Depth.{Depth}
+use Rattle.records.specs.declared.Depth.the-variants.{Bits8, Bits10, Bits12, Bits16, Float16}
+use Rattle.records.specs.declared.Colorimetry.{Colorimetry}
+use Rattle.records.specs.declared.Colorimetry.the-variants as color
+use Rattle.records.specs.declared.PackingMode.{PackingMode}
+use Rattle.records.specs.declared.PackingMode.the-variants.{General, Block}
+use Rattle.records.specs.declared.Edition.{Edition}
+use Rattle.records.specs.declared.Edition.the-variants.{Of2017, Of2022}
+use Rattle.records.specs.declared.Range.{Range}
+use Rattle.records.specs.declared.Range.the-variants.{Narrow, Full, FullProtect}
+use Rattle.records.specs.declared.Transfer.{Transfer}
+use Rattle.records.specs.declared.Transfer.the-variants as curve
 
 abbrev pub sampling-text : Sampling → List ℕ
 sampling-text YCbCr444 = codes "YCbCr-4:4:4"

@@ -1,70 +1,76 @@
-//! A record in words: a line for each parameter, with its name as in a format line.
+//! A record for people: a line for each parameter, with its name and its value as in a format line.
 
-use crate::parameters::Parameter;
-use crate::parameters::ParameterToken;
-use crate::records::ColorimetryToken;
-use crate::records::DepthToken;
-use crate::records::EditionToken;
-use crate::records::PackingModeToken;
-use crate::records::RangeToken;
-use crate::records::Record;
-use crate::records::SamplingToken;
-use crate::records::TransferToken;
+use crate::spellings::ColorimetryToken;
+use crate::spellings::DepthToken;
+use crate::spellings::EditionToken;
+use crate::spellings::PackingModeToken;
+use crate::spellings::RangeToken;
+use crate::spellings::SamplingToken;
+use crate::spellings::TransferToken;
 use crate::tokens::Token;
+use records::Ratio;
+use records::Record;
 use std::fmt;
 
-pub impl fmt::Display for Record as RecordDisplay {
+/// Shows a record; a parameter that the line left out has its default, marked as such.
+#[derive(Clone, Copy)]
+pub struct Listing<'a>(pub &'a Record);
+
+pub impl fmt::Display for Listing<'_> as ListingDisplay {
     fn fmt<W: fmt::Write>(&self, f: &mut fmt::Formatter<W>) -> fmt::Result {
-        write_required(self, f)?;
-        write_optional(self, f)
+        write_required(self.0, f)?;
+        write_optional(self.0, f)
     }
 }
 
 fn write_required<W: fmt::Write>(r: &Record, f: &mut fmt::Formatter<W>) -> fmt::Result {
-    let rate = r.frame_rate;
-    let n = rate.numerator;
-    let d = rate.denominator;
-    write_entry(f, Parameter::Sampling, r.sampling.text())?;
-    write_entry(f, Parameter::Depth, r.depth.text())?;
-    write_entry(f, Parameter::Width, r.width)?;
-    write_entry(f, Parameter::Height, r.height)?;
-    if d == 1 {
-        write_entry(f, Parameter::FrameRate, n)?;
+    let sampling = r.sampling.text();
+    let depth = r.depth.text();
+    let width = r.width;
+    let height = r.height;
+    let Ratio {
+        numerator,
+        denominator,
+    } = r.frame_rate;
+    let colorimetry = r.colorimetry.text();
+    let packing = r.packing.text();
+    let edition = r.edition.text();
+    writeln!(f, "sampling       {sampling}\ndepth          {depth}")?;
+    writeln!(f, "width          {width}\nheight         {height}")?;
+    if denominator == 1 {
+        writeln!(f, "exactframerate {numerator}")?;
     } else {
-        write_entry(f, Parameter::FrameRate, format_args!("{n}/{d}"))?;
+        writeln!(f, "exactframerate {numerator}/{denominator}")?;
     }
-    write_entry(f, Parameter::Colorimetry, r.colorimetry.text())?;
-    write_entry(f, Parameter::Packing, r.packing.text())?;
-    write_entry(f, Parameter::Edition, r.edition.text())
+    writeln!(
+        f,
+        "colorimetry    {colorimetry}\nPM             {packing}\nSSN            {edition}"
+    )
 }
 
-// An absent parameter is shown with its default, marked as such.
 fn write_optional<W: fmt::Write>(r: &Record, f: &mut fmt::Formatter<W>) -> fmt::Result {
+    let interlace = yes_or_no(r.interlace);
+    let segmented = yes_or_no(r.segmented);
     let transfer = r.transfer_or_default().text();
     let range = r.range_or_default().text();
-    let udp = r.max_udp_or_default();
-    let aspect = r.pixel_aspect_or_default();
-    let w = aspect.numerator;
-    let h = aspect.denominator;
-    write_entry(f, Parameter::Interlace, yes_or_no(r.interlace))?;
-    write_entry(f, Parameter::Segmented, yes_or_no(r.segmented))?;
-    let note = mark(r.transfer.is_some());
-    write_entry(f, Parameter::Transfer, format_args!("{transfer}{note}"))?;
-    let note = mark(r.range.is_some());
-    write_entry(f, Parameter::Range, format_args!("{range}{note}"))?;
-    let note = mark(r.max_udp.is_some());
-    write_entry(f, Parameter::MaxUdp, format_args!("{udp}{note}"))?;
-    let note = mark(r.pixel_aspect.is_some());
-    write_entry(f, Parameter::PixelAspect, format_args!("{w}:{h}{note}"))
-}
-
-fn write_entry<W: fmt::Write, V: fmt::Display + Drop>(
-    f: &mut fmt::Formatter<W>,
-    parameter: Parameter,
-    value: V,
-) -> fmt::Result {
-    let name = parameter.text();
-    writeln!(f, "{name:<14} {value}")
+    let octets = r.max_udp_or_default();
+    let Ratio {
+        numerator,
+        denominator,
+    } = r.pixel_aspect_or_default();
+    let marks = (
+        mark(r.transfer.is_some()),
+        mark(r.range.is_some()),
+        mark(r.max_udp.is_some()),
+        mark(r.pixel_aspect.is_some()),
+    );
+    let (a, b, c, d) = marks;
+    writeln!(f, "interlace      {interlace}\nsegmented      {segmented}")?;
+    writeln!(f, "TCS            {transfer}{a}\nRANGE          {range}{b}")?;
+    writeln!(
+        f,
+        "MAXUDP         {octets}{c}\nPAR            {numerator}:{denominator}{d}"
+    )
 }
 
 fn yes_or_no(flag: bool) -> &'static str {

@@ -3,9 +3,9 @@
 ghost use mathlib.Core.Path.{_≡_};
 ghost use Prim.Native.Nat.{_<_};
 ghost use Rattle.fmtp.specs.Decimals.{digit, decimal-of, coprime, ratio-of, rate-of};
-use crate::records::Ratio;
 use crate::texts::Split;
 use crate::texts::split_at_first;
+use records::Ratio;
 
 /// The number from 1 to `limit` that a text writes.
 pub fn decimal(text: &[u8], limit: u32) -> Option<u32>

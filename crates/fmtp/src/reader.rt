@@ -13,6 +13,7 @@ ghost use Rattle.fmtp.specs.Spellings.{spelled};
 ghost use Rattle.fmtp.specs.Parameters.{parameter-text, size-of, max-udp-of, aspect-of};
 ghost use Rattle.fmtp.specs.declared.parameters.Parameter.the-variants.{FrameRate, MaxUdp, PixelAspect};
 ghost use Rattle.fmtp.specs.Reading.{times, repeated, all-permitted, entry-in, value-of, flagged, record-of, reading-entries, reading};
+use crate::consistency::is_at_odds;
 use crate::entries::Entries;
 use crate::entries::Entry;
 use crate::entries::is_well_formed;
@@ -23,17 +24,17 @@ use crate::parameters::is_permitted;
 use crate::parameters::max_udp;
 use crate::parameters::pixel_aspect;
 use crate::parameters::size;
-use crate::records::ColorimetryToken;
-use crate::records::DepthToken;
-use crate::records::EditionToken;
-use crate::records::PackingModeToken;
-use crate::records::RangeToken;
-use crate::records::Ratio;
-use crate::records::Record;
-use crate::records::SamplingToken;
-use crate::records::TransferToken;
+use crate::spellings::ColorimetryToken;
+use crate::spellings::DepthToken;
+use crate::spellings::EditionToken;
+use crate::spellings::PackingModeToken;
+use crate::spellings::RangeToken;
+use crate::spellings::SamplingToken;
+use crate::spellings::TransferToken;
 use crate::tokens::Token;
 use crate::tokens::recognised;
+use records::Ratio;
+use records::Record;
 use refusals::Refusal;
 
 /// The longest line that is read, in octets.
@@ -67,7 +68,7 @@ fn read_entries(entries: Entries) -> Result<Record, Refusal>
     let Some(record) = record_from(entries) else {
         return Err(Refusal::NameMissing);
     };
-    if record.is_at_odds() {
+    if is_at_odds(&record) {
         return Err(Refusal::NamesAtOdds);
     }
     Ok(record)

@@ -34,7 +34,9 @@ fn parted(row: &[u8]) -> (u32, &[u8]) {
         if *octet == b' ' {
             return (number, &row[i + 1..]);
         }
-        number = number.wrapping_mul(10).wrapping_add(u32::from(octet.wrapping_sub(b'0')));
+        number = number
+            .wrapping_mul(10)
+            .wrapping_add(u32::from(octet.wrapping_sub(b'0')));
     }
     (u32::MAX, row)
 }

@@ -12,5 +12,5 @@ returns c =
     let line = c .args .line .now in
     let legible : Legible line = record { short = le-ltb 1024 (length line) (c .if-line-gt-MAX-LINE .left); formed = sym (c .if-not-is-well-formed .ensures tt) } in
     let answer : numbered (c .read-entries .result) ≡ reading line =
-        c .read-entries .ensures ∙ ap reading-entries (c .of .ensures) ∙ sym (legible-reading line legible) in
+    c .read-entries .ensures ∙ ap reading-entries (c .of .ensures) ∙ sym (legible-reading line legible) in
     record { answer = answer; order = λ other same. answer ∙ same-answer line other same }

@@ -1,6 +1,6 @@
 use mathlib.Core.Path.{sym, ap}
 use Rattle.fmtp.specs.Values.{sampling-text}
-use Rattle.fmtp.proofs.records.SamplingToken.text.Needs as need
+use Rattle.fmtp.proofs.spellings.SamplingToken.text.Needs as need
 
 pub returns-in-YCbCr420 : need.returns-in-YCbCr420
 returns-in-YCbCr420 c = ap sampling-text (sym (c .in-YCbCr420 .is))

@@ -1,6 +1,6 @@
 use mathlib.Core.Path.{sym, ap}
 use Rattle.fmtp.specs.Values.{transfer-text}
-use Rattle.fmtp.proofs.records.TransferToken.text.Needs as need
+use Rattle.fmtp.proofs.spellings.TransferToken.text.Needs as need
 
 pub returns-in-Bt2100LinearPq : need.returns-in-Bt2100LinearPq
 returns-in-Bt2100LinearPq c = ap transfer-text (sym (c .in-Bt2100LinearPq .is))

@@ -1,4 +1,4 @@
-//! What a format line announces: a record with a named value for each parameter.
+//! How a format line spells the values that come from a list.
 
 ghost use mathlib.Core.Path.{_≡_};
 ghost use Rattle.fmtp.specs.Values.{
@@ -17,25 +17,14 @@ ghost use Rattle.fmtp.specs.Values.{
   transfer-text,
   transfers,
 };
-ghost use Rattle.fmtp.specs.Records.{transfer-told, range-told, max-udp-told, pixel-aspect-told, at-odds, new-in-2022};
 use crate::tokens::Token;
-
-/// The color components of a pixel, and how their planes are sampled.
-#[derive(Clone, Copy, Debug, PartialEq, Eq)]
-pub enum Sampling {
-    YCbCr444,
-    YCbCr422,
-    YCbCr420,
-    ClYCbCr444,
-    ClYCbCr422,
-    ClYCbCr420,
-    ICtCp444,
-    ICtCp422,
-    ICtCp420,
-    Rgb,
-    Xyz,
-    Key,
-}
+use records::Colorimetry;
+use records::Depth;
+use records::Edition;
+use records::PackingMode;
+use records::Range;
+use records::Sampling;
+use records::Transfer;
 
 pub impl Token for Sampling as SamplingToken {
     ghost spelling = { sampling-text };
@@ -77,16 +66,6 @@ pub impl Token for Sampling as SamplingToken {
     }
 }
 
-/// Bits of a sample: integers, or floating point of 16 bits.
-#[derive(Clone, Copy, Debug, PartialEq, Eq)]
-pub enum Depth {
-    Bits8,
-    Bits10,
-    Bits12,
-    Bits16,
-    Float16,
-}
-
 pub impl Token for Depth as DepthToken {
     ghost spelling = { depth-text };
 
@@ -111,20 +90,6 @@ pub impl Token for Depth as DepthToken {
             Depth::Float16,
         ]
     }
-}
-
-/// The system of colors that the samples are measured in.
-#[derive(Clone, Copy, Debug, PartialEq, Eq)]
-pub enum Colorimetry {
-    Bt601,
-    Bt709,
-    Bt2020,
-    Bt2100,
-    St2065Part1,
-    St2065Part3,
-    Unspecified,
-    Xyz,
-    Alpha,
 }
 
 pub impl Token for Colorimetry as ColorimetryToken {
@@ -161,13 +126,6 @@ pub impl Token for Colorimetry as ColorimetryToken {
     }
 }
 
-/// How packets are filled: as they come, or in blocks of 180 octets.
-#[derive(Clone, Copy, Debug, PartialEq, Eq)]
-pub enum PackingMode {
-    General,
-    Block,
-}
-
 pub impl Token for PackingMode as PackingModeToken {
     ghost spelling = { packing-text };
 
@@ -183,13 +141,6 @@ pub impl Token for PackingMode as PackingModeToken {
     fn all() -> &'static [PackingMode] {
         &[PackingMode::General, PackingMode::Block]
     }
-}
-
-/// The edition of ST 2110-20 that the sender follows.
-#[derive(Clone, Copy, Debug, PartialEq, Eq)]
-pub enum Edition {
-    Of2017,
-    Of2022,
 }
 
 pub impl Token for Edition as EditionToken {
@@ -209,14 +160,6 @@ pub impl Token for Edition as EditionToken {
     }
 }
 
-/// The part of the numbers that sample values use.
-#[derive(Clone, Copy, Debug, PartialEq, Eq)]
-pub enum Range {
-    Narrow,
-    Full,
-    FullProtect,
-}
-
 pub impl Token for Range as RangeToken {
     ghost spelling = { range-text };
 
@@ -233,22 +176,6 @@ pub impl Token for Range as RangeToken {
     fn all() -> &'static [Range] {
         &[Range::Narrow, Range::Full, Range::FullProtect]
     }
-}
-
-/// The transfer characteristic: how sample values stand for light.
-#[derive(Clone, Copy, Debug, PartialEq, Eq)]
-pub enum Transfer {
-    Sdr,
-    Pq,
-    Hlg,
-    Linear,
-    Bt2100LinearPq,
-    Bt2100LinearHlg,
-    St2065Part1,
-    St428Part1,
-    Density,
-    St2115LogS3,
-    Unspecified,
 }
 
 pub impl Token for Transfer as TransferToken {
@@ -286,80 +213,5 @@ pub impl Token for Transfer as TransferToken {
             Transfer::St2115LogS3,
             Transfer::Unspecified,
         ]
-    }
-}
-
-/// Two numbers without a common divisor: a frame rate, or the width and the height of a pixel.
-#[derive(Clone, Copy, Debug, PartialEq, Eq)]
-pub struct Ratio {
-    pub numerator: u32,
-    pub denominator: u32,
-}
-
-/// The parameters of a format line. What the line leaves out is `None`; the `_or_default` questions tell what then holds.
-#[derive(Clone, Copy, Debug, PartialEq, Eq)]
-pub struct Record {
-    pub sampling: Sampling,
-    pub depth: Depth,
-    pub width: u32,
-    pub height: u32,
-    pub frame_rate: Ratio,
-    pub colorimetry: Colorimetry,
-    pub packing: PackingMode,
-    pub edition: Edition,
-    pub interlace: bool,
-    pub segmented: bool,
-    pub transfer: Option<Transfer>,
-    pub range: Option<Range>,
-    pub max_udp: Option<u32>,
-    pub pixel_aspect: Option<Ratio>,
-}
-
-impl Record {
-    pub fn transfer_or_default(&self) -> Transfer
-        ensures { λ r. ⌜ r ≡ transfer-told (now (self .entry)) ⌝ }
-    {
-        self.transfer.unwrap_or(Transfer::Sdr)
-    }
-
-    pub fn range_or_default(&self) -> Range
-        ensures { λ r. ⌜ r ≡ range-told (now (self .entry)) ⌝ }
-    {
-        self.range.unwrap_or(Range::Narrow)
-    }
-
-    /// The largest UDP datagram, in octets with its header.
-    pub fn max_udp_or_default(&self) -> u32
-        ensures { λ r. ⌜ r ≡ max-udp-told (now (self .entry)) ⌝ }
-    {
-        self.max_udp.unwrap_or(1460)
-    }
-
-    /// The width of a pixel to its height.
-    pub fn pixel_aspect_or_default(&self) -> Ratio
-        ensures { λ r. ⌜ r ≡ pixel-aspect-told (now (self .entry)) ⌝ }
-    {
-        self.pixel_aspect.unwrap_or(Ratio {
-            numerator: 1,
-            denominator: 1,
-        })
-    }
-
-    // Whether two parameters contradict each other.
-    pub(crate) fn is_at_odds(&self) -> bool
-        ensures { λ r. ⌜ r ≡ at-odds (now (self .entry)) ⌝ }
-    {
-        let protected = matches!(self.range, Some(Range::FullProtect));
-        let wide = matches!(self.colorimetry, Colorimetry::Bt2100);
-        let of_2022 = matches!(self.edition, Edition::Of2022);
-        self.segmented && !self.interlace || protected && wide || of_2022 != self.is_new_in_2022()
-    }
-
-    // Whether a value came with the edition of 2022.
-    fn is_new_in_2022(&self) -> bool
-        ensures { λ r. ⌜ r ≡ new-in-2022 (now (self .entry)) ⌝ }
-    {
-        matches!(self.colorimetry, Colorimetry::Alpha)
-            || matches!(self.transfer, Some(Transfer::St2115LogS3))
     }
 }

@@ -1,32 +1,13 @@
--- What a record says where a parameter is absent, and which parameters contradict each other. Assumes nothing.
+-- Which parameters contradict each other. Assumes nothing.
 use Prim.Native.Nat.{ℕ}
 use mathlib.Core.Bool.{Bool, true, false, not, _&&_, _||_}
 use mathlib.Core.List.{List}
 use lib.Chars.{codes}
 use Rattle.std.specs.declared.option.Option.{Option}
 use Rattle.std.specs.declared.option.Option.the-variants.{Some, None}
-use Rattle.std.specs.Options.{valueOr}
 use Rattle.std.specs.shelf.Text.{sameBytes}
-use Rattle.fmtp.specs.declared.records.Record.{Record}
-use Rattle.fmtp.specs.declared.records.Ratio.{Ratio}
-use Rattle.fmtp.specs.declared.records.Range.{Range}
-use Rattle.fmtp.specs.declared.records.Range.the-variants.{Narrow}
-use Rattle.fmtp.specs.declared.records.Transfer.{Transfer}
-use Rattle.fmtp.specs.declared.records.Transfer.the-variants.{Sdr}
+use Rattle.records.specs.declared.Record.{Record}
 use Rattle.fmtp.specs.Values.{colorimetry-text, edition-text, range-text, transfer-text}
-
--- SDR, NARROW, 1460 and 1:1 hold where the line does not say otherwise
-abbrev pub transfer-told : Record → Transfer
-transfer-told r = valueOr (r .transfer) Sdr
-
-abbrev pub range-told : Record → Range
-range-told r = valueOr (r .range) Narrow
-
-abbrev pub max-udp-told : Record → ℕ
-max-udp-told r = valueOr (r .«max_udp») 1460
-
-abbrev pub pixel-aspect-told : Record → Ratio
-pixel-aspect-told r = valueOr (r .«pixel_aspect») (record { numerator = 1; denominator = 1 })
 
 -- whether a value is spelled so
 abbrev pub is : {T : Type 0} → (T → List ℕ) → List ℕ → T → Bool
