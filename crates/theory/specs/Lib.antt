@@ -1,0 +1,15 @@
+pub mod Octets
+pub mod Answers
+pub mod Layouts
+pub mod Formats
+pub mod Pictures
+pub mod Groups
+pub mod Packets
+pub mod Taking
+pub mod Readable
+pub mod Cutting
+pub mod Runs
+pub mod Wholes
+pub mod Kinds
+pub mod Cases
+pub mod Claims
