@@ -1,4 +1,5 @@
 pub mod Bits
+pub mod Ceils
 pub mod Chains
 pub mod Contents
 pub mod Cuts

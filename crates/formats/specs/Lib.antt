@@ -1,0 +1,3 @@
+pub mod Announced
+pub mod Frames
+pub mod Meaning

@@ -1,0 +1,5 @@
+use Rattle.theory.proofs.Lawfulness.{standard-kinds}
+use Rattle.kinds.proofs.standard.Ycc444Kind.the-impl.Needs as need
+
+pub lawful-law : need.lawful-law
+lawful-law _ = standard-kinds .ycc444-lawful
