@@ -113,7 +113,7 @@ fn print_part<K: GroupKind + Copy>(
     let octets = part.map_octets();
     print!(
         rt,
-        "part {field}         {rows} rows, {groups} groups, map of {octets} octets; planes"
+        "part {field}         rows {rows}, groups {groups}, octets of the map {octets}, planes"
     )?;
     for plane in 0..format.kind.plane_count() {
         let width = part.plane_width(plane);

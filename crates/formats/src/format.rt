@@ -6,6 +6,7 @@ ghost use Rattle.refusals.specs.Numbers.{numbered};
 ghost use Rattle.theory.specs.Formats.{layout-of, row-groups as unit-row-groups, scan-allowed, mode-allowed, lawful-format};
 ghost use Rattle.formats.specs.Meaning.{format-of, format-check};
 use crate::sizes::divided_up;
+use crate::sizes::octets_of;
 use kinds::GroupKind;
 use refusals::Refusal;
 
@@ -36,8 +37,7 @@ impl<K: GroupKind> Format<K> {
 
     /// Octets of a group; 0 where the kind does not have the depth.
     pub fn group_octets(&self) -> usize
-        ensures value { λ r. ⌜ r ≡ layout-of (format-of (K·GroupKind .kind) (now (self .entry))) .octets ⌝ }
-        ensures bound { λ r. ⌜ r ≤ 48 ⌝ }
+        ensures { λ r. ⌜ r ≡ layout-of (format-of (K·GroupKind .kind) (now (self .entry))) .octets ⌝ }
     {
         self.kind.octets(self.depth)
     }
@@ -87,6 +87,6 @@ impl<K: GroupKind> Format<K> {
             || self.mode == 2
                 && octets > 0
                 && 180 % octets == 0
-                && self.row_groups() * octets >= 630
+                && octets_of(self.row_groups(), octets) >= 630
     }
 }

@@ -7,6 +7,8 @@ ghost use Rattle.formats.specs.Meaning.{format-of, part-of};
 ghost use Rattle.formats.specs.Frames.{frame-of, planar-words, packed-octets};
 use crate::format::Format;
 use crate::part::Part;
+use crate::sizes::area;
+use crate::sizes::octets_of;
 use kinds::GroupKind;
 
 impl<K: GroupKind + Copy> Format<K> {
@@ -43,7 +45,7 @@ impl<K: GroupKind + Copy> Format<K> {
     pub fn packed_octets(&self) -> usize
         ensures { λ r. ⌜ r ≡ packed-octets (format-of (K·GroupKind .kind) (now (self .entry))) ⌝ }
     {
-        self.frame().groups() * self.group_octets()
+        octets_of(self.frame().groups(), self.group_octets())
     }
 }
 
@@ -52,5 +54,5 @@ fn plane_area<K: GroupKind>(part: &Part<K>, plane: usize) -> usize
     ensures value { λ r. ⌜ r ≡ plane-width (part-of (K·GroupKind .kind) (now (part .entry))) plane * plane-height (part-of (K·GroupKind .kind) (now (part .entry))) plane ⌝ }
     ensures bound { λ r. ⌜ r ≤ 65535 * 65535 ⌝ }
 {
-    part.plane_width(plane) * part.plane_height(plane)
+    area(part.plane_width(plane), part.plane_height(plane))
 }

@@ -7,6 +7,7 @@ ghost use Rattle.theory.specs.Formats.{rows as rows-of, unit-rows, groups as gr
 ghost use Rattle.formats.specs.Meaning.{part-of, part-check};
 use crate::format::Format;
 use crate::format::FormatClone;
+use crate::sizes::area;
 use crate::sizes::divided_up;
 use kinds::GroupKind;
 use refusals::Refusal;
@@ -65,7 +66,7 @@ impl<K: GroupKind> Part<K> {
         ensures value { λ r. ⌜ r ≡ groups-of (part-of (K·GroupKind .kind) (now (self .entry))) ⌝ }
         ensures bound { λ r. ⌜ r ≤ 65535 * 65535 ⌝ }
     {
-        self.unit_rows() * self.format.row_groups()
+        area(self.format.row_groups(), self.unit_rows())
     }
 
     /// Octets of the arrival map: a bit for each group.

@@ -1,9 +1,14 @@
+use Prim.Native.Nat.{_≤_}
 use native.Mathlib.Omega.{arith}
-use Rattle.std.proofs.shelf.Bits.{mul-le}
+use mathlib.Core.Path.{sym, subst}
+use Rattle.formats.proofs.Bounds.{octets-few}
 use Rattle.formats.proofs.format.Format.is_mode_lawful.Needs as need
 
-pub mul-result : need.mul-result
-mul-result g c =
-    let wide = c .row-groups .ensures .bound in
-    let few = c .group-octets-octets .ensures .bound in
-    omega (arith, mul-le _ _ 65535 48 wide few)
+pub octets-of-requires : need.octets-of-requires
+octets-of-requires g c κs =
+    let f = c .args .self .now in
+    let few = octets-few (g .K·GroupKind .kind (f .kind)) (g .K·GroupKind·met .lawful (f .kind)) (f .depth) in
+    record {
+      many = omega (arith, c .row-groups .ensures .bound);
+      few = subst (λ n. n ≤ 48) (sym (c .group-octets-octets .ensures)) few;
+    }
