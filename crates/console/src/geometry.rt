@@ -1,77 +1,16 @@
-//! What follows from a record: groups, rows, planes and memory, for the kind of its sampling.
+//! What follows from a format: groups, rows, planes and memory.
 
 use formats::Format;
 use formats::FormatClone;
-use formats::KeySampled;
 use formats::Part;
-use formats::RgbSampled;
-use formats::SampledKind;
-use formats::XyzSampled;
-use formats::Ycc420Sampled;
-use formats::Ycc422Sampled;
-use formats::Ycc444Sampled;
 use kinds::GroupKind;
-use kinds::Key;
-use kinds::Rgb;
-use kinds::Xyz;
-use kinds::Ycc420;
-use kinds::Ycc422;
-use kinds::Ycc444;
-use records::Record;
-use records::Sampling;
-use refusals::RefusalDisplay;
-use std::io;
+use std::error::AnyError;
 
-/// How a stream is told apart from others: its payload type and its SSRC.
-#[derive(Clone, Copy)]
-pub struct Stream {
-    pub payload_type: u8,
-    pub ssrc: u32,
-}
-
-/// Says what follows from a record, or that its format is refused.
-pub fn print_geometry(rt: &LibcRuntime, record: &Record, stream: Stream) -> io::Result<()> {
-    match record.sampling {
-        Sampling::YCbCr444 | Sampling::ClYCbCr444 | Sampling::ICtCp444 => print_for(
-            rt,
-            Ycc444,
-            record,
-            stream,
-        ),
-        Sampling::YCbCr422 | Sampling::ClYCbCr422 | Sampling::ICtCp422 => print_for(
-            rt,
-            Ycc422,
-            record,
-            stream,
-        ),
-        Sampling::YCbCr420 | Sampling::ClYCbCr420 | Sampling::ICtCp420 => print_for(
-            rt,
-            Ycc420,
-            record,
-            stream,
-        ),
-        Sampling::Rgb => print_for(rt, Rgb, record, stream),
-        Sampling::Xyz => print_for(rt, Xyz, record, stream),
-        Sampling::Key => print_for(rt, Key, record, stream),
-    }
-}
-
-fn print_for<K: SampledKind + Copy>(
+/// Says what follows from a format.
+pub fn print_format<K: GroupKind + Copy>(
     rt: &LibcRuntime,
-    kind: K,
-    record: &Record,
-    stream: Stream,
-) -> io::Result<()> {
-    match Format::announced(kind, record, stream.payload_type, stream.ssrc) {
-        Ok(format) => print_format(rt, &format),
-        Err(refusal) => {
-            let number = refusal.number();
-            println!(rt, "format         refused {number}: {refusal}")
-        }
-    }
-}
-
-fn print_format<K: GroupKind + Copy>(rt: &LibcRuntime, format: &Format<K>) -> io::Result<()> {
+    format: &Format<K>,
+) -> Result<(), AnyError> {
     let payload_type = format.payload_type;
     let ssrc = format.ssrc;
     println!(
@@ -102,7 +41,7 @@ fn print_part<K: GroupKind + Copy>(
     rt: &LibcRuntime,
     format: &Format<K>,
     field: u8,
-) -> io::Result<()> {
+) -> Result<(), AnyError> {
     let part = Part {
         format: *format,
         timestamp: 0,
@@ -120,5 +59,6 @@ fn print_part<K: GroupKind + Copy>(
         let height = part.plane_height(plane);
         print!(rt, " {width} x {height}")?;
     }
-    println!(rt, "")
+    println!(rt, "")?;
+    Ok(())
 }

@@ -1,5 +1,5 @@
 pub mod Buffers
-pub mod Placed
+pub mod Laws
 pub mod Spans
 pub mod Steps
-pub mod Unders
+pub mod Tested

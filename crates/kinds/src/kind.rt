@@ -1,7 +1,7 @@
 //! What a kind of group is: how many octets a group has, what it covers, and which sample stands at each position.
 
 ghost use mathlib.Core.Path.{_≡_};
-ghost use Rattle.theory.specs.Layouts.{Kind, Layout, Lawful-kind};
+ghost use Rattle.theory.specs.Layouts.{Kind, Lawful-kind};
 
 /// A sampling family: how its groups are laid out at each of its depths. Every question answers 0 for another depth, plane or position.
 pub trait GroupKind {
@@ -11,8 +11,10 @@ pub trait GroupKind {
     /// The rows that a group covers.
     const ROWS: usize;
 
+    /// What the kind is, in the words of the definitions.
     ghost kind: { Self → Kind };
 
+    /// The laws of a kind, owed by each implementation.
     law lawful: { (x : Self) → Lawful-kind (kind x) };
 
     /// The planes of a picture: `PLANES`.

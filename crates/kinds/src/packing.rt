@@ -5,8 +5,8 @@ ghost use mathlib.Core.Path.{_≡_};
 ghost use Prim.Native.Nat.{_+_, _-_, _*_, _/_, _%_, _^_, _≤_, _<_};
 ghost use lib.ListN.{length};
 ghost use Rattle.std.specs.shelf.Digits.{Under, number};
-ghost use Rattle.theory.specs.Groups.{octets-of-samples, value-at};
-ghost use Rattle.kinds.specs.Packing.{Reads-back, all-under, are-samples, is-group, packed, packed-into, packs, packs-into, unpacked};
+ghost use Rattle.theory.specs.Groups.{octets-of-samples, samples-of-octets, value-at};
+ghost use Rattle.kinds.specs.Packing.{Reads-back, all-under, are-samples, is-group, packed, packed-into, packs, packs-into, unpacked, unpacked-all, unpacks-all};
 use crate::kind::GroupKind;
 
 /// The number that a few octets write.
@@ -64,7 +64,7 @@ fn octet_at(samples: &[u16], start: usize, depth: u8) -> u8
 }
 
 /// Whether each sample is below the limit.
-fn is_under(samples: &[u16], limit: u32) -> bool
+fn all_under(samples: &[u16], limit: u32) -> bool
     ensures { λ r. ⌜ r ≡ all-under limit (now (samples .entry)) ⌝ }
 {
     for sample in samples {
@@ -76,27 +76,47 @@ fn is_under(samples: &[u16], limit: u32) -> bool
 }
 
 /// Whether these octets are as many as a group has.
-fn is_whole<K: GroupKind>(kind: &K, depth: u8, group: &[u8]) -> bool
+fn is_group<K: GroupKind>(kind: &K, depth: u8, group: &[u8]) -> bool
     ensures { λ r. ⌜ r ≡ is-group (K·GroupKind .kind (now (kind .entry)) .layout depth) (now (group .entry)) ⌝ }
 {
     !group.is_empty() && group.len() == kind.octets(depth)
 }
 
 /// Whether these samples are as many as a group has, each of `depth` bits.
-fn is_complete<K: GroupKind>(kind: &K, depth: u8, samples: &[u16]) -> bool
+fn are_samples<K: GroupKind>(kind: &K, depth: u8, samples: &[u16]) -> bool
     requires { ⌜ 0 < K·GroupKind .kind (now kind) .layout depth .octets ⌝ }
     ensures { λ r. ⌜ r ≡ are-samples (K·GroupKind .kind (now (kind .entry)) .layout depth) depth (now (samples .entry)) ⌝ }
 {
-    samples.len() == kind.positions(depth) && is_under(samples, 1 << depth)
+    samples.len() == kind.positions(depth) && all_under(samples, 1 << depth)
 }
 
-/// Writes a group from its samples.
-fn write_group<K: GroupKind>(kind: &K, depth: u8, samples: &[u16], group: &mut [u8])
-    requires lawful { ⌜ 0 < K·GroupKind .kind (now kind) .layout depth .octets ⌝ }
-    requires whole { ⌜ length (now group) ≡ K·GroupKind .kind (now kind) .layout depth .octets ⌝ }
+/// The sample at position `k` of a whole group.
+fn value_at<K: GroupKind>(kind: &K, depth: u8, group: &[u8], k: usize) -> u16
+    requires whole { ⌜ is-group (K·GroupKind .kind (now kind) .layout depth) (now group) ≡ true ⌝ }
+    requires inside { ⌜ k < K·GroupKind .kind (now kind) .layout depth .positions ⌝ }
+    ensures { λ r. ⌜ r ≡ value-at (K·GroupKind .kind (now (kind .entry)) .layout depth) depth (now (group .entry)) k ⌝ }
+{
+    bits_at(group, k * depth as usize, depth)
+}
+
+/// Reads every sample of a whole group.
+fn read_group<K: GroupKind>(kind: &K, depth: u8, group: &[u8], samples: &mut [u16])
+    requires whole { ⌜ is-group (K·GroupKind .kind (now kind) .layout depth) (now group) ≡ true ⌝ }
     requires all { ⌜ length (now samples) ≡ K·GroupKind .kind (now kind) .layout depth .positions ⌝ }
-    requires small { ⌜ Under (2 ^ depth) (now samples) ⌝ }
-    ensures { λ _. ⌜ now (group .exit) ≡ octets-of-samples (K·GroupKind .kind (now (kind .entry)) .layout depth) depth (now (samples .entry)) ⌝ }
+    ensures samples { λ _. ⌜ now (samples .exit) ≡ samples-of-octets (K·GroupKind .kind (now (kind .entry)) .layout depth) depth (now (group .entry)) ⌝ }
+    ensures back { λ _. ⌜ octets-of-samples (K·GroupKind .kind (now (kind .entry)) .layout depth) depth (now (samples .exit)) ≡ now (group .entry) ⌝ }
+{
+    for (k, sample) in samples.iter_mut().enumerate() {
+        *sample = value_at(kind, depth, group, k);
+    }
+}
+
+/// Writes a whole group from its samples.
+fn write_group<K: GroupKind>(kind: &K, depth: u8, samples: &[u16], group: &mut [u8])
+    requires whole { ⌜ is-group (K·GroupKind .kind (now kind) .layout depth) (now group) ≡ true ⌝ }
+    requires complete { ⌜ are-samples (K·GroupKind .kind (now kind) .layout depth) depth (now samples) ≡ true ⌝ }
+    ensures octets { λ _. ⌜ now (group .exit) ≡ octets-of-samples (K·GroupKind .kind (now (kind .entry)) .layout depth) depth (now (samples .entry)) ⌝ }
+    ensures back { λ _. ⌜ Reads-back (K·GroupKind .kind (now (kind .entry)) .layout depth) depth (now (samples .entry)) (now (group .exit)) ⌝ }
 {
     for (i, octet) in group.iter_mut().enumerate() {
         *octet = octet_at(samples, 8 * i, depth);
@@ -107,10 +127,24 @@ fn write_group<K: GroupKind>(kind: &K, depth: u8, samples: &[u16], group: &mut [
 pub fn unpack<K: GroupKind>(kind: &K, depth: u8, group: &[u8], k: usize) -> u16
     ensures { λ r. ⌜ r ≡ unpacked (K·GroupKind .kind (now (kind .entry)) .layout depth) depth (now (group .entry)) k ⌝ }
 {
-    if is_whole(kind, depth, group) && k < kind.positions(depth) {
-        bits_at(group, k * depth as usize, depth)
+    if is_group(kind, depth, group) && k < kind.positions(depth) {
+        value_at(kind, depth, group, k)
     } else {
         0
+    }
+}
+
+/// Reads every sample of a group; false, and nothing written, if the depth, the octets or the number of samples is not the kind's.
+pub fn unpack_all<K: GroupKind>(kind: &K, depth: u8, group: &[u8], samples: &mut [u16]) -> bool
+    ensures answer { λ r. ⌜ r ≡ unpacks-all (K·GroupKind .kind (now (kind .entry)) .layout depth) (now (group .entry)) (now (samples .entry)) ⌝ }
+    ensures memory { λ _. ⌜ now (samples .exit) ≡ unpacked-all (K·GroupKind .kind (now (kind .entry)) .layout depth) depth (now (group .entry)) (now (samples .entry)) ⌝ }
+    ensures back { λ r. ⌜ (r ≡ true → octets-of-samples (K·GroupKind .kind (now (kind .entry)) .layout depth) depth (now (samples .exit)) ≡ now (group .entry)) ⌝ }
+{
+    if is_group(kind, depth, group) && samples.len() == kind.positions(depth) {
+        read_group(kind, depth, group, samples);
+        true
+    } else {
+        false
     }
 }
 
@@ -120,7 +154,7 @@ pub fn pack<K: GroupKind>(kind: &K, depth: u8, samples: &[u16], group: &mut [u8]
     ensures memory { λ _. ⌜ now (group .exit) ≡ packed (K·GroupKind .kind (now (kind .entry)) .layout depth) depth (now (samples .entry)) (now (group .entry)) ⌝ }
     ensures back { λ r. ⌜ (r ≡ true → Reads-back (K·GroupKind .kind (now (kind .entry)) .layout depth) depth (now (samples .entry)) (now (group .exit))) ⌝ }
 {
-    if is_whole(kind, depth, group) && is_complete(kind, depth, samples) {
+    if is_group(kind, depth, group) && are_samples(kind, depth, samples) {
         write_group(kind, depth, samples, group);
         true
     } else {

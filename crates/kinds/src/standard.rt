@@ -31,8 +31,7 @@ pub struct Xyz;
 #[derive(Clone, Copy)]
 pub struct Key;
 
-// The family in which each of three planes has every column: 4:4:4, RGB and XYZ.
-
+/// Octets of a group of three planes that have every column each: 4:4:4, RGB and XYZ.
 fn full_octets(depth: u8) -> usize
     ensures { λ r. ⌜ r ≡ full [] depth .octets ⌝ }
 {
@@ -45,6 +44,7 @@ fn full_octets(depth: u8) -> usize
     }
 }
 
+/// Columns of such a group, and of a key's.
 fn full_columns(depth: u8) -> usize
     ensures { λ r. ⌜ r ≡ full [] depth .columns ⌝ }
 {
@@ -56,12 +56,14 @@ fn full_columns(depth: u8) -> usize
     }
 }
 
+/// Samples of such a group.
 fn full_positions(depth: u8) -> usize
     ensures { λ r. ⌜ r ≡ full [] depth .positions ⌝ }
 {
     3 * full_columns(depth)
 }
 
+/// Columns, and rows, of the part to one of a plane.
 fn full_step(depth: u8, plane: usize) -> usize
     ensures columns { λ r. ⌜ r ≡ full [] depth .column-step plane ⌝ }
     ensures rows { λ r. ⌜ r ≡ full [] depth .row-step plane ⌝ }
@@ -73,13 +75,14 @@ fn full_step(depth: u8, plane: usize) -> usize
     }
 }
 
+/// The column of position `k` of such a group.
 fn full_column(depth: u8, k: usize) -> usize
     ensures { λ r. ⌜ r ≡ full [] depth .column k ⌝ }
 {
     if k < full_positions(depth) { k / 3 } else { 0 }
 }
 
-/// A depth of XYZ, or 0 for one below those.
+/// The depth, or 0 below the depths of XYZ.
 fn deep(depth: u8) -> u8
     ensures { λ r. ⌜ r ≡ cond (ltb depth 12) 0 depth ⌝ }
 {
@@ -191,9 +194,9 @@ pub impl GroupKind for Rgb as RgbKind {
 }
 
 pub impl GroupKind for Xyz as XyzKind {
-    const PLANES: usize = 3;
+    const PLANES: usize = Rgb::PLANES;
 
-    const ROWS: usize = 1;
+    const ROWS: usize = Rgb::ROWS;
 
     ghost kind = { λ _. xyz };
 

@@ -12,6 +12,7 @@ pub mod Lawfulness
 pub mod Limits
 pub mod Maps
 pub mod Named
+pub mod Naming
 pub mod Order
 pub mod Parts
 pub mod Places

@@ -7,6 +7,7 @@ pub mod Groups
 pub mod Packets
 pub mod Taking
 pub mod Readable
+pub mod Naming
 pub mod Cutting
 pub mod Runs
 pub mod Wholes

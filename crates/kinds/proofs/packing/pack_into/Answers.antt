@@ -1,4 +1,5 @@
 use mathlib.Core.Path.{_∙_}
+use native.Mathlib.Omega.{arith}
 use Rattle.kinds.proofs.Buffers.{packs-part, packed-part}
 use Rattle.kinds.proofs.packing.pack_into.Needs as need
 
@@ -11,8 +12,6 @@ returns-then-octets-buffer g c =
     let i = c .args .start in
     let n = c .octets-octets .result in
     record {
-      answer = c .pack .ensures .answer ∙ packs-part l d xs buffer i n (c .octets-octets .ensures) (c .if-start-buffer .taken) (c .if-octets-buffer .taken);
-      memory =
-          packed-part l d xs buffer i n (c .octets-octets .ensures) (c .if-start-buffer .taken) (c .if-octets-buffer .taken) (c .pack .last .group)
-          (c .pack .ensures .memory);
+      answer = c .pack .ensures .answer ∙ packs-part l d xs buffer i n (c .octets-octets .ensures) (omega arith) (omega arith);
+      memory = packed-part l d xs buffer i n (c .octets-octets .ensures) (omega arith) (omega arith) (c .pack .last .group) (c .pack .ensures .memory);
     }

@@ -1,5 +1,6 @@
-use Rattle.theory.proofs.Lawfulness.{standard-kinds}
+use mathlib.Core.Path.{refl}
+use Rattle.kinds.proofs.Laws.{lawful-full}
 use Rattle.kinds.proofs.standard.RgbKind.the-impl.Needs as need
 
 pub lawful-law : need.lawful-law
-lawful-law _ = standard-kinds .rgb-lawful
+lawful-law _ = lawful-full _ refl refl

@@ -5,8 +5,8 @@ use lib.ListN.{getD}
 use Rattle.std.specs.shelf.Digits.{Under}
 use Rattle.std.proofs.shelf.Elements.{all-more}
 use Rattle.std.proofs.shelf.Lists.{take-all}
-use Rattle.kinds.proofs.Unders.{under-decides, not-under}
-use Rattle.kinds.proofs.packing.is_under.Needs as need
+use Rattle.kinds.proofs.Tested.{under-decides, not-under}
+use Rattle.kinds.proofs.packing.all_under.Needs as need
 
 pub loop-sample-again : need.loop-sample-again
 loop-sample-again c =

@@ -1,0 +1,3 @@
+pub mod Headers
+pub mod Reading
+pub mod Carried
