@@ -22,14 +22,11 @@ pub fn print_format<K: GroupKind + Copy>(
     let groups = format.row_groups();
     println!(
         rt,
-        "group          {octets} octets for {columns} columns, {groups} in a row"
+        "group          octets {octets}, columns {columns}, groups in a row {groups}"
     )?;
-    let words = format.planar_words();
+    let planar = format.planar_words().saturating_mul(2);
     let packed = format.packed_octets();
-    println!(
-        rt,
-        "frame          {words} words planar, {packed} octets packed"
-    )?;
+    println!(rt, "frame          octets planar {planar}, packed {packed}")?;
     print_part(rt, format, 0)?;
     if format.scan != 0 {
         print_part(rt, format, 1)?;
