@@ -278,24 +278,27 @@ pub impl GroupKind for Ycc422 as Ycc422Kind {
     }
 
     fn column_step(&self, depth: u8, plane: usize) -> usize {
-        match (depth, plane) {
-            (8 | 10 | 12 | 16, 0) => 1,
-            (8 | 10 | 12 | 16, 1 | 2) => 2,
+        if self.octets(depth) == 0 {
+            return 0;
+        }
+        match plane {
+            0 => 1,
+            1 | 2 => 2,
             _ => 0,
         }
     }
 
     fn row_step(&self, depth: u8, plane: usize) -> usize {
-        match (depth, plane) {
-            (8 | 10 | 12 | 16, 0..=2) => 1,
-            _ => 0,
-        }
+        full_step(depth, plane)
     }
 
     fn position_plane(&self, depth: u8, k: usize) -> usize {
-        match (depth, k) {
-            (8 | 10 | 12 | 16, 0) => 1,
-            (8 | 10 | 12 | 16, 2) => 2,
+        if self.octets(depth) == 0 {
+            return 0;
+        }
+        match k {
+            0 => 1,
+            2 => 2,
             _ => 0,
         }
     }
@@ -305,9 +308,10 @@ pub impl GroupKind for Ycc422 as Ycc422Kind {
     }
 
     fn position_column(&self, depth: u8, k: usize) -> usize {
-        match (depth, k) {
-            (8 | 10 | 12 | 16, 3) => 1,
-            _ => 0,
+        if self.octets(depth) > 0 && k == 3 {
+            1
+        } else {
+            0
         }
     }
 }
@@ -349,9 +353,12 @@ pub impl GroupKind for Ycc420 as Ycc420Kind {
     }
 
     fn column_step(&self, depth: u8, plane: usize) -> usize {
-        match (depth, plane) {
-            (8 | 10 | 12, 0) => 1,
-            (8 | 10 | 12, 1 | 2) => 2,
+        if self.octets(depth) == 0 {
+            return 0;
+        }
+        match plane {
+            0 => 1,
+            1 | 2 => 2,
             _ => 0,
         }
     }
