@@ -1,6 +1,6 @@
--- From what the checks answer to what reading answers, and what follows. Assumes nothing.
+-- From what the check answers to what reading answers, and what follows. Assumes nothing.
 use Prim.Native.Nat.{ℕ}
-use mathlib.Core.Path.{_≡_, refl, sym, ap, _∙_}
+use mathlib.Core.Path.{_≡_, refl, ap, _∙_}
 use mathlib.Core.Bool.{Bool, true, false, cond, not}
 use mathlib.Core.List.{List}
 use native.Mathlib.Omega.{arith}
@@ -10,7 +10,6 @@ use Rattle.std.specs.declared.result.Result.{Result}
 use Rattle.std.specs.declared.result.Result.the-variants.{Ok, Err}
 use Rattle.std.specs.Results.{isOk}
 use Rattle.std.proofs.shelf.Tests.{both-ways}
-use Rattle.formats.specs.Meaning.{format-check}
 use Rattle.refusals.specs.declared.Refusal.{Refusal}
 use Rattle.theory.specs.Answers.{first-row}
 use Rattle.theory.specs.Layouts.{Lawful-kind}
@@ -19,38 +18,24 @@ use Rattle.theory.specs.Packets.{packet-rows}
 use Rattle.theory.specs.Naming.{Sound-naming}
 use Rattle.theory.proofs.Naming.{sound-naming}
 use Rattle.packets.specs.declared.packet.Packet.{Packet}
-use Rattle.packets.specs.Reading.{Carried, carried, unless, packet-check, reading}
+use Rattle.packets.specs.Reading.{Carried, carried, unless, reading-refusal, reading-check, reading}
 use Rattle.packets.specs.Carried.{carried-by, carries, outcome}
 
 module _ (t : Part) (q : List ℕ) where
-  -- the format is refused
-  pub format-refused : (n : ℕ) → Err n ≡ format-check (t .format) → Err n ≡ reading t q
-  format-refused n = go (lawful-format (t .format))
+  pub refused : (n : ℕ) → Err n ≡ reading-check t q → Err n ≡ reading t q
+  refused n = go (reading-refusal t q)
     where
-      go : (b : Bool) → _≡_ {A = Result (Unit {0}) ℕ} (Err n) (cond b (Ok tt) (Err 4))
-          → _≡_ {A = Result Carried ℕ} (Err n) (unless (cond (not b) (Some 4) (first-row (packet-rows t q))) (carried t q))
-      go true e = absurd (let z : _≡_ {A = ℕ} 0 1 = cc in omega arith)
-      go false e = let z : n ≡ 4 = cc in ap Err z
+      go : (o : Option ℕ) → _≡_ {A = Result (Unit {0}) ℕ} (Err n) (unless o tt) → _≡_ {A = Result Carried ℕ} (Err n) (unless o (carried t q))
+      go None e = absurd (let z : _≡_ {A = ℕ} 0 1 = cc in omega arith)
+      go (Some row) e = let z : n ≡ row = cc in ap Err z
 
-  -- the format stands, and the packet is refused
-  pub packet-refused : (n : ℕ) → Ok tt ≡ format-check (t .format) → Err n ≡ packet-check t q → Err n ≡ reading t q
-  packet-refused n = go (lawful-format (t .format)) (first-row (packet-rows t q))
+  pub accepted : Ok tt ≡ reading-check t q → Ok (carried t q) ≡ reading t q
+  accepted = go (reading-refusal t q)
     where
-      go : (b : Bool) (o : Option ℕ) → _≡_ {A = Result (Unit {0}) ℕ} (Ok tt) (cond b (Ok tt) (Err 4)) → _≡_ {A = Result (Unit {0}) ℕ} (Err n) (unless o tt)
-          → _≡_ {A = Result Carried ℕ} (Err n) (unless (cond (not b) (Some 4) o) (carried t q))
-      go false o e f = absurd (let z : _≡_ {A = ℕ} 0 1 = cc in omega arith)
-      go true None e f = absurd (let z : _≡_ {A = ℕ} 0 1 = cc in omega arith)
-      go true (Some row) e f = let z : n ≡ row = cc in ap Err z
-
-  -- nothing is refused
-  pub accepted : Ok tt ≡ format-check (t .format) → Ok tt ≡ packet-check t q → Ok (carried t q) ≡ reading t q
-  accepted = go (lawful-format (t .format)) (first-row (packet-rows t q))
-    where
-      go : (b : Bool) (o : Option ℕ) → _≡_ {A = Result (Unit {0}) ℕ} (Ok tt) (cond b (Ok tt) (Err 4)) → _≡_ {A = Result (Unit {0}) ℕ} (Ok tt) (unless o tt)
-          → _≡_ {A = Result Carried ℕ} (Ok (carried t q)) (unless (cond (not b) (Some 4) o) (carried t q))
-      go false o e f = absurd (let z : _≡_ {A = ℕ} 0 1 = cc in omega arith)
-      go true None e f = refl
-      go true (Some row) e f = absurd (let z : _≡_ {A = ℕ} 0 1 = cc in omega arith)
+      go : (o : Option ℕ) → _≡_ {A = Result (Unit {0}) ℕ} (Ok tt) (unless o tt)
+          → _≡_ {A = Result Carried ℕ} (Ok (carried t q)) (unless o (carried t q))
+      go None e = refl
+      go (Some row) e = absurd (let z : _≡_ {A = ℕ} 0 1 = cc in omega arith)
 
   -- a packet that is not refused names soundly
   pub sound : Lawful-kind (t .format .kind) → (w : Carried) → Ok w ≡ reading t q → Sound-naming t q

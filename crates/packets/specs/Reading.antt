@@ -41,12 +41,16 @@ abbrev pub unless : {X : Type 0} → Option ℕ → X → Result X ℕ
 unless None x = Ok x
 unless (Some row) x = Err row
 
--- rows 7 to 18 of the refusal table, and row 4 before them
+-- rows 7 to 18 of the refusal table
 abbrev pub packet-check : Part → List ℕ → Result (Unit {0}) ℕ
 packet-check t q = unless (first-row (packet-rows t q)) tt
 
+-- row 4 before them
 abbrev pub reading-refusal : Part → List ℕ → Option ℕ
 reading-refusal t q = first-row ((not (lawful-format (t .format)), 4) ∷ packet-rows t q)
+
+abbrev pub reading-check : Part → List ℕ → Result (Unit {0}) ℕ
+reading-check t q = unless (reading-refusal t q) tt
 
 -- the refusal, or what the packet carries
 abbrev pub reading : Part → List ℕ → Result Carried ℕ

@@ -1,34 +1,39 @@
 //! The conditions for which a packet is refused, each over the whole packet.
 
 ghost use mathlib.Core.Path.{_≡_};
-ghost use mathlib.Core.Bool.{_&&_, _||_, not};
-ghost use Prim.Native.Nat.{_/_, _%_, _+_, _≤_};
-ghost use lib.Dec.{eqb, leb, ltb};
+ghost use mathlib.Core.Bool.{not};
 ghost use Rattle.formats.specs.Meaning.{part-of};
-ghost use Rattle.theory.specs.Octets.{any-below};
+ghost use Rattle.theory.specs.Formats.{lawful-format};
 ghost use Rattle.theory.specs.Packets as rules;
 use crate::fields;
 use formats::Part;
 use kinds::GroupKind;
 
-/// Octets of a UDP datagram of 1,460 octets behind its header.
+// What a UDP datagram of 1,460 octets holds behind its header.
 const MOST_OCTETS: usize = 1452;
 
-/// Refusal 7.
+/// Refusal 4: the format is outside the limits.
+pub fn outside_limits<K: GroupKind>(part: &Part<K>) -> bool
+    ensures { λ r. ⌜ r ≡ not (lawful-format (part-of (K·GroupKind .kind) (now (part .entry)) .format)) ⌝ }
+{
+    part.format.check().is_err()
+}
+
+/// Refusal 7: over 1,452 octets.
 pub fn too_long(packet: &[u8]) -> bool
     ensures { λ r. ⌜ r ≡ rules.too-long (now (packet .entry)) ⌝ }
 {
     packet.len() > MOST_OCTETS
 }
 
-/// Refusal 8.
+/// Refusal 8: under 12 octets, or another version than 2.
 pub fn no_rtp(packet: &[u8]) -> bool
     ensures { λ r. ⌜ r ≡ rules.no-rtp (now (packet .entry)) ⌝ }
 {
     packet.len() < 12 || fields::version(packet) != 2
 }
 
-/// Refusal 9.
+/// Refusal 9: sources, extension and padding pass the end, or padding is counted as 0.
 pub fn overrun(packet: &[u8]) -> bool
     ensures { λ r. ⌜ r ≡ rules.overrun (now (packet .entry)) ⌝ }
 {
@@ -36,7 +41,7 @@ pub fn overrun(packet: &[u8]) -> bool
         || fields::padded(packet) && fields::padding(packet) == 0
 }
 
-/// Refusal 10.
+/// Refusal 10: another payload type, SSRC or timestamp.
 pub fn other_stream<K: GroupKind>(packet: &[u8], part: &Part<K>) -> bool
     ensures { λ r. ⌜ r ≡ rules.other-stream (part-of (K·GroupKind .kind) (now (part .entry))) (now (packet .entry)) ⌝ }
 {
@@ -45,7 +50,7 @@ pub fn other_stream<K: GroupKind>(packet: &[u8], part: &Part<K>) -> bool
         || fields::timestamp(packet) != part.timestamp
 }
 
-/// Refusal 11.
+/// Refusal 11: the sample row data headers are cut, or a third one says that another follows.
 pub fn headers_cut(packet: &[u8]) -> bool
     ensures { λ r. ⌜ r ≡ rules.headers-cut (now (packet .entry)) ⌝ }
 {
@@ -57,14 +62,14 @@ pub fn headers_cut(packet: &[u8]) -> bool
             && (end < fields::header(packet, 3) || fields::continues(packet, 2))
 }
 
-/// Refusal 16.
+/// Refusal 16: the lengths exceed what follows the headers.
 pub fn data_short(packet: &[u8]) -> bool
     ensures { λ r. ⌜ r ≡ rules.data-short (now (packet .entry)) ⌝ }
 {
     fields::data_octets(packet) < fields::lengths(packet, fields::headers(packet))
 }
 
-/// Refusal 17.
+/// Refusal 17: octets are left over, without the marker.
 pub fn left_over(packet: &[u8]) -> bool
     ensures { λ r. ⌜ r ≡ rules.left-over (now (packet .entry)) ⌝ }
 {
@@ -72,7 +77,7 @@ pub fn left_over(packet: &[u8]) -> bool
         && !fields::marker(packet)
 }
 
-/// Refusal 18.
+/// Refusal 18: in block mode the lengths are together no multiple of 180, without the marker.
 pub fn broken_block<K: GroupKind>(packet: &[u8], part: &Part<K>) -> bool
     ensures { λ r. ⌜ r ≡ rules.broken-block (part-of (K·GroupKind .kind) (now (part .entry))) (now (packet .entry)) ⌝ }
 {

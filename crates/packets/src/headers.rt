@@ -11,7 +11,7 @@ use crate::fields;
 use formats::Part;
 use kinds::GroupKind;
 
-/// Refusal 12.
+/// Refusal 12: a length is no multiple of the group's octets, or is 0 beside another header.
 pub fn bad_length<K: GroupKind>(packet: &[u8], part: &Part<K>) -> bool
     ensures { λ r. ⌜ r ≡ rules.bad-length (part-of (K·GroupKind .kind) (now (part .entry))) (now (packet .entry)) ⌝ }
 {
@@ -23,7 +23,7 @@ pub fn bad_length<K: GroupKind>(packet: &[u8], part: &Part<K>) -> bool
     false
 }
 
-/// Refusal 13.
+/// Refusal 13: a row is of another field, beyond the part, or no multiple of the group's rows.
 pub fn bad_row<K: GroupKind>(packet: &[u8], part: &Part<K>) -> bool
     ensures { λ r. ⌜ r ≡ rules.bad-row (part-of (K·GroupKind .kind) (now (part .entry))) (now (packet .entry)) ⌝ }
 {
@@ -35,7 +35,7 @@ pub fn bad_row<K: GroupKind>(packet: &[u8], part: &Part<K>) -> bool
     false
 }
 
-/// Refusal 14.
+/// Refusal 14: an offset is no multiple of the group's columns, or a segment passes the end of its row.
 pub fn bad_offset<K: GroupKind>(packet: &[u8], part: &Part<K>) -> bool
     ensures { λ r. ⌜ r ≡ rules.bad-offset (part-of (K·GroupKind .kind) (now (part .entry))) (now (packet .entry)) ⌝ }
 {
@@ -47,7 +47,7 @@ pub fn bad_offset<K: GroupKind>(packet: &[u8], part: &Part<K>) -> bool
     false
 }
 
-/// Refusal 15.
+/// Refusal 15: a segment begins before the end of the one in front of it.
 pub fn out_of_turn<K: GroupKind>(packet: &[u8], part: &Part<K>) -> bool
     ensures { λ r. ⌜ r ≡ rules.out-of-turn (part-of (K·GroupKind .kind) (now (part .entry))) (now (packet .entry)) ⌝ }
 {

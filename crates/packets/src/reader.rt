@@ -19,12 +19,11 @@ use kinds::GroupKind;
 use refusals::Refusal;
 
 impl<'a> Packet<'a> {
-    /// The packet, read for a part: refusal 4 for the part's format, then 7 to 18, the first that holds.
+    /// The packet, read for a part: refusal 4 for the part's format, or one of 7 to 18.
     pub fn read<K: GroupKind>(octets: &'a [u8], part: &Part<K>) -> Result<Packet<'a>, Refusal>
         ensures answer { λ r. ⌜ outcome r ≡ reading (part-of (K·GroupKind .kind) (now (part .entry))) (now (octets .entry)) ⌝ }
         ensures sound { λ r. ⌜ (isOk r ≡ true → Sound-naming (part-of (K·GroupKind .kind) (now (part .entry))) (now (octets .entry))) ⌝ }
     {
-        part.format.check()?;
         check(octets, part)?;
         Ok(Packet {
             octets,

@@ -1,17 +1,27 @@
-//! The rows of the refusal table that a packet can meet, in their order.
+//! The rows of the refusal table that reading tests, in their order.
 
 ghost use mathlib.Core.Path.{_≡_};
 ghost use Rattle.formats.specs.Meaning.{part-of};
 ghost use Rattle.refusals.specs.Numbers.{numbered};
-ghost use Rattle.packets.specs.Reading.{packet-check};
+ghost use Rattle.packets.specs.Reading.{packet-check, reading-check};
 use crate::checks;
 use crate::headers;
 use formats::Part;
 use kinds::GroupKind;
 use refusals::Refusal;
 
-/// Refusals 7 to 18: the first that holds.
+/// Refusal 4 for the part's format, then 7 to 18: the first that holds.
 pub fn check<K: GroupKind>(packet: &[u8], part: &Part<K>) -> Result<(), Refusal>
+    ensures { λ r. ⌜ numbered r ≡ reading-check (part-of (K·GroupKind .kind) (now (part .entry))) (now (packet .entry)) ⌝ }
+{
+    if checks::outside_limits(part) {
+        Err(Refusal::FormatOutsideLimits)
+    } else {
+        check_packet(packet, part)
+    }
+}
+
+fn check_packet<K: GroupKind>(packet: &[u8], part: &Part<K>) -> Result<(), Refusal>
     ensures { λ r. ⌜ numbered r ≡ packet-check (part-of (K·GroupKind .kind) (now (part .entry))) (now (packet .entry)) ⌝ }
 {
     if checks::too_long(packet) {
