@@ -5,7 +5,7 @@ ghost use Prim.Native.Nat.{_/_, _%_, _≤_};
 ghost use lib.Dec.{eqb};
 
 /// How often `by` goes into `a`; 0 where `by` is 0.
-pub fn quotient(a: usize, by: usize) -> usize
+pub(crate) fn quotient(a: usize, by: usize) -> usize
     ensures value { λ r. ⌜ r ≡ a / by ⌝ }
     ensures bound { λ r. ⌜ r ≤ a ⌝ }
 {
@@ -13,7 +13,7 @@ pub fn quotient(a: usize, by: usize) -> usize
 }
 
 /// Whether `a` is a multiple of `by`.
-pub fn is_multiple(a: usize, by: usize) -> bool
+pub(crate) fn is_multiple(a: usize, by: usize) -> bool
     ensures { λ r. ⌜ r ≡ eqb (a % by) 0 ⌝ }
 {
     if by == 0 { a == 0 } else { a % by == 0 }

@@ -26,13 +26,13 @@ fn number32(packet: &[u8], at: usize) -> u32
     u32::from(number16(packet, at)) * 65536 + u32::from(number16(packet, at + 2))
 }
 
-pub fn version(packet: &[u8]) -> u8
+pub(crate) fn version(packet: &[u8]) -> u8
     ensures { λ r. ⌜ r ≡ fields.version (now (packet .entry)) ⌝ }
 {
     octet(packet, 0) / 64
 }
 
-pub fn padded(packet: &[u8]) -> bool
+pub(crate) fn padded(packet: &[u8]) -> bool
     ensures { λ r. ⌜ r ≡ fields.padded (now (packet .entry)) ⌝ }
 {
     octet(packet, 0) / 32 % 2 == 1
@@ -50,25 +50,25 @@ fn sources(packet: &[u8]) -> u8
     octet(packet, 0) % 16
 }
 
-pub fn marker(packet: &[u8]) -> bool
+pub(crate) fn marker(packet: &[u8]) -> bool
     ensures { λ r. ⌜ r ≡ fields.marker (now (packet .entry)) ⌝ }
 {
     octet(packet, 1) / 128 == 1
 }
 
-pub fn payload_type(packet: &[u8]) -> u8
+pub(crate) fn payload_type(packet: &[u8]) -> u8
     ensures { λ r. ⌜ r ≡ fields.payload-type (now (packet .entry)) ⌝ }
 {
     octet(packet, 1) % 128
 }
 
-pub fn timestamp(packet: &[u8]) -> u32
+pub(crate) fn timestamp(packet: &[u8]) -> u32
     ensures { λ r. ⌜ r ≡ fields.timestamp (now (packet .entry)) ⌝ }
 {
     number32(packet, 4)
 }
 
-pub fn ssrc(packet: &[u8]) -> u32
+pub(crate) fn ssrc(packet: &[u8]) -> u32
     ensures { λ r. ⌜ r ≡ fields.ssrc (now (packet .entry)) ⌝ }
 {
     number32(packet, 8)
@@ -82,7 +82,7 @@ fn sources_end(packet: &[u8]) -> usize
 }
 
 /// Where the payload begins: behind the contributing sources and the extension.
-pub fn payload_start(packet: &[u8]) -> usize
+pub(crate) fn payload_start(packet: &[u8]) -> usize
     ensures value { λ r. ⌜ r ≡ fields.payload-start (now (packet .entry)) ⌝ }
     ensures bound { λ r. ⌜ r < 2 ^ 20 ⌝ }
 {
@@ -95,7 +95,7 @@ pub fn payload_start(packet: &[u8]) -> usize
 }
 
 /// Octets of padding, which the packet's last octet counts.
-pub fn padding(packet: &[u8]) -> usize
+pub(crate) fn padding(packet: &[u8]) -> usize
     ensures value { λ r. ⌜ r ≡ fields.padding (now (packet .entry)) ⌝ }
     ensures bound { λ r. ⌜ r < 256 ⌝ }
 {
@@ -106,14 +106,14 @@ pub fn padding(packet: &[u8]) -> usize
     }
 }
 
-pub fn payload_end(packet: &[u8]) -> usize
+pub(crate) fn payload_end(packet: &[u8]) -> usize
     ensures { λ r. ⌜ r ≡ fields.payload-end (now (packet .entry)) ⌝ }
 {
     packet.len().saturating_sub(padding(packet))
 }
 
 /// Where SRD header `i` begins.
-pub fn header(packet: &[u8], i: usize) -> usize
+pub(crate) fn header(packet: &[u8], i: usize) -> usize
     requires { ⌜ i ≤ 3 ⌝ }
     ensures value { λ r. ⌜ r ≡ fields.header (now (packet .entry)) i ⌝ }
     ensures bound { λ r. ⌜ r < 2 ^ 21 ⌝ }
@@ -121,35 +121,35 @@ pub fn header(packet: &[u8], i: usize) -> usize
     payload_start(packet) + 2 + 6 * i
 }
 
-pub fn srd_length(packet: &[u8], i: usize) -> u16
+pub(crate) fn srd_length(packet: &[u8], i: usize) -> u16
     requires { ⌜ i ≤ 3 ⌝ }
     ensures { λ r. ⌜ r ≡ fields.srd-length (now (packet .entry)) i ⌝ }
 {
     number16(packet, header(packet, i))
 }
 
-pub fn srd_field(packet: &[u8], i: usize) -> u8
+pub(crate) fn srd_field(packet: &[u8], i: usize) -> u8
     requires { ⌜ i ≤ 3 ⌝ }
     ensures { λ r. ⌜ r ≡ fields.srd-field (now (packet .entry)) i ⌝ }
 {
     octet(packet, header(packet, i) + 2) / 128
 }
 
-pub fn srd_row(packet: &[u8], i: usize) -> u16
+pub(crate) fn srd_row(packet: &[u8], i: usize) -> u16
     requires { ⌜ i ≤ 3 ⌝ }
     ensures { λ r. ⌜ r ≡ fields.srd-row (now (packet .entry)) i ⌝ }
 {
     number16(packet, header(packet, i) + 2) % 32768
 }
 
-pub fn continues(packet: &[u8], i: usize) -> bool
+pub(crate) fn continues(packet: &[u8], i: usize) -> bool
     requires { ⌜ i ≤ 3 ⌝ }
     ensures { λ r. ⌜ r ≡ fields.continues (now (packet .entry)) i ⌝ }
 {
     octet(packet, header(packet, i) + 4) / 128 == 1
 }
 
-pub fn srd_offset(packet: &[u8], i: usize) -> u16
+pub(crate) fn srd_offset(packet: &[u8], i: usize) -> u16
     requires { ⌜ i ≤ 3 ⌝ }
     ensures { λ r. ⌜ r ≡ fields.srd-offset (now (packet .entry)) i ⌝ }
 {
@@ -157,7 +157,7 @@ pub fn srd_offset(packet: &[u8], i: usize) -> u16
 }
 
 /// How many SRD headers there are.
-pub fn headers(packet: &[u8]) -> usize
+pub(crate) fn headers(packet: &[u8]) -> usize
     ensures value { λ r. ⌜ r ≡ fields.headers (now (packet .entry)) ⌝ }
     ensures low { λ r. ⌜ 1 ≤ r ⌝ }
     ensures high { λ r. ⌜ r ≤ 3 ⌝ }
@@ -172,7 +172,7 @@ pub fn headers(packet: &[u8]) -> usize
 }
 
 /// Octets of the first `n` segments together.
-pub fn lengths(packet: &[u8], n: usize) -> usize
+pub(crate) fn lengths(packet: &[u8], n: usize) -> usize
     requires { ⌜ n ≤ 3 ⌝ }
     ensures value { λ r. ⌜ r ≡ fields.lengths (now (packet .entry)) n ⌝ }
     ensures bound { λ r. ⌜ r < 2 ^ 18 ⌝ }
@@ -185,7 +185,7 @@ pub fn lengths(packet: &[u8], n: usize) -> usize
 }
 
 /// Where the segments begin.
-pub fn data_start(packet: &[u8]) -> usize
+pub(crate) fn data_start(packet: &[u8]) -> usize
     ensures value { λ r. ⌜ r ≡ fields.data-start (now (packet .entry)) ⌝ }
     ensures bound { λ r. ⌜ r < 2 ^ 21 ⌝ }
 {
@@ -193,7 +193,7 @@ pub fn data_start(packet: &[u8]) -> usize
 }
 
 /// Octets that follow the SRD headers, up to the padding.
-pub fn data_octets(packet: &[u8]) -> usize
+pub(crate) fn data_octets(packet: &[u8]) -> usize
     ensures { λ r. ⌜ r ≡ fields.data-octets (now (packet .entry)) ⌝ }
 {
     payload_end(packet).saturating_sub(data_start(packet))

@@ -12,7 +12,7 @@ use formats::Part;
 use kinds::GroupKind;
 
 /// Refusal 12: a length is no multiple of the group's octets, or is 0 beside another header.
-pub fn bad_length<K: GroupKind>(packet: &[u8], part: &Part<K>) -> bool
+pub(crate) fn bad_length<K: GroupKind>(packet: &[u8], part: &Part<K>) -> bool
     ensures { λ r. ⌜ r ≡ rules.bad-length (part-of (K·GroupKind .kind) (now (part .entry))) (now (packet .entry)) ⌝ }
 {
     for i in 0..fields::headers(packet) {
@@ -24,7 +24,7 @@ pub fn bad_length<K: GroupKind>(packet: &[u8], part: &Part<K>) -> bool
 }
 
 /// Refusal 13: a row is of another field, beyond the part, or no multiple of the group's rows.
-pub fn bad_row<K: GroupKind>(packet: &[u8], part: &Part<K>) -> bool
+pub(crate) fn bad_row<K: GroupKind>(packet: &[u8], part: &Part<K>) -> bool
     ensures { λ r. ⌜ r ≡ rules.bad-row (part-of (K·GroupKind .kind) (now (part .entry))) (now (packet .entry)) ⌝ }
 {
     for i in 0..fields::headers(packet) {
@@ -36,7 +36,7 @@ pub fn bad_row<K: GroupKind>(packet: &[u8], part: &Part<K>) -> bool
 }
 
 /// Refusal 14: an offset is no multiple of the group's columns, or a segment passes the end of its row.
-pub fn bad_offset<K: GroupKind>(packet: &[u8], part: &Part<K>) -> bool
+pub(crate) fn bad_offset<K: GroupKind>(packet: &[u8], part: &Part<K>) -> bool
     ensures { λ r. ⌜ r ≡ rules.bad-offset (part-of (K·GroupKind .kind) (now (part .entry))) (now (packet .entry)) ⌝ }
 {
     for i in 0..fields::headers(packet) {
@@ -48,7 +48,7 @@ pub fn bad_offset<K: GroupKind>(packet: &[u8], part: &Part<K>) -> bool
 }
 
 /// Refusal 15: a segment begins before the end of the one in front of it.
-pub fn out_of_turn<K: GroupKind>(packet: &[u8], part: &Part<K>) -> bool
+pub(crate) fn out_of_turn<K: GroupKind>(packet: &[u8], part: &Part<K>) -> bool
     ensures { λ r. ⌜ r ≡ rules.out-of-turn (part-of (K·GroupKind .kind) (now (part .entry))) (now (packet .entry)) ⌝ }
 {
     for i in 0..fields::headers(packet) - 1 {

@@ -11,7 +11,7 @@ use kinds::GroupKind;
 use refusals::Refusal;
 
 /// Refusal 4 for the part's format, then 7 to 18: the first that holds.
-pub fn check<K: GroupKind>(packet: &[u8], part: &Part<K>) -> Result<(), Refusal>
+pub(crate) fn check<K: GroupKind>(packet: &[u8], part: &Part<K>) -> Result<(), Refusal>
     ensures { λ r. ⌜ numbered r ≡ reading-check (part-of (K·GroupKind .kind) (now (part .entry))) (now (packet .entry)) ⌝ }
 {
     if checks::outside_limits(part) {
