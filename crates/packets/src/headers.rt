@@ -35,7 +35,7 @@ pub(crate) fn bad_row<K: GroupKind>(packet: &[u8], part: &Part<K>) -> bool
     false
 }
 
-/// Refusal 14: an offset is no multiple of the group's columns, or a segment passes the end of its row.
+/// Refusal 14: an offset is no multiple of the group's columns or not below the width, or a segment passes its row's last group.
 pub(crate) fn bad_offset<K: GroupKind>(packet: &[u8], part: &Part<K>) -> bool
     ensures { λ r. ⌜ r ≡ rules.bad-offset (part-of (K·GroupKind .kind) (now (part .entry))) (now (packet .entry)) ⌝ }
 {
@@ -47,7 +47,7 @@ pub(crate) fn bad_offset<K: GroupKind>(packet: &[u8], part: &Part<K>) -> bool
     false
 }
 
-/// Refusal 15: a segment begins before the end of the one in front of it.
+/// Refusal 15: a header is on a smaller row than the one before, or on the same row before that one's end.
 pub(crate) fn out_of_turn<K: GroupKind>(packet: &[u8], part: &Part<K>) -> bool
     ensures { λ r. ⌜ r ≡ rules.out-of-turn (part-of (K·GroupKind .kind) (now (part .entry))) (now (packet .entry)) ⌝ }
 {

@@ -5,10 +5,10 @@ use native.Mathlib.Numerals.{add-one}
 use native.Mathlib.Omega.{arith}
 use mathlib.Core.Path.{_≡_, refl, sym, ap}
 use mathlib.Core.Logic.{⊎-elim}
-use mathlib.Core.Bool.{Bool, true, false, _&&_}
+use mathlib.Core.Bool.{true, false, _&&_}
 use mathlib.Core.List.{List}
 use lib.Dec.{leb, ltb, eqb}
-use lib.ListN.{length, getD, replicate, length-replicate}
+use lib.ListN.{getD, replicate, length-replicate}
 use Rattle.std.specs.declared.option.Option.the-variants.{None}
 use Rattle.std.proofs.shelf.Tests.{both-ways, cases-eq, cases-lt, cases-order, and-cases, and-from, and-parts, or-parts, leb-true, ltb-true, ltb-false, eqb-true, eq-eqb, not-false}
 use Rattle.theory.specs.Answers.{first-row, is-none}
@@ -16,7 +16,7 @@ use Rattle.theory.specs.Layouts.{Lawful-kind}
 use Rattle.theory.specs.Formats.{Part, layout-of, row-groups, map-octets, lawful-format, plane-width, plane-height}
 use Rattle.theory.specs.Pictures.{Picture, fits-part}
 use Rattle.theory.specs.Packets.{headers, payload-end, data-start, lengths, srd-length, srd-row, first-group, segment-groups, bad-length, bad-row, out-of-turn, packet-rows}
-use Rattle.theory.specs.Taking.{segment-start, segment-names, taken}
+use Rattle.theory.specs.Taking.{segment-start, segment-names}
 use Rattle.theory.specs.Readable.{Readable}
 use Rattle.theory.specs.Naming.{Sound-naming}
 use Rattle.theory.proofs.Readable.{row-fails, readable}
@@ -115,16 +115,29 @@ module _ (t : Part) (law : Lawful-kind (t .format .kind)) (q : List ℕ) (allowe
       (⊎-elim (λ l. absurd (omega (arith, held i g a, held j g b, later i j l hj))) (λ l. absurd (omega (arith, held i g a, held j g b, later j i l hi))))
       (cases-order i j)
 
-  pub sound-naming : Sound-naming t q
-  sound-naming =
+  inside : (i : ℕ) → i < headers q → data-start q + lengths q i + srd-length q i ≤ payload-end q
+  inside i h = omega (arith, is-readable .segments-inside, lengths-up q i (headers q) h)
+
+  whole : (i : ℕ) → i < headers q → segment-groups t q i * layout-of (t .format) .octets ≡ srd-length q i
+  whole i h = omega (arith, div-add-mod' (srd-length q i) (layout-of (t .format) .octets), whole-length i h)
+
+  octets-in : (i g : ℕ) → i < headers q → segment-names t q i g ≡ true
+      → data-start q + lengths q i + (g - segment-start t q i + 1) * layout-of (t .format) .octets ≤ payload-end q
+  octets-in i g h e =
+      let b = held i g e in
       let o : ℕ = layout-of (t .format) .octets in
-      record {
-        segments-inside = is-readable .segments-inside;
-        segment-inside = λ i h. omega (arith, is-readable .segments-inside, lengths-up q i (headers q) h);
-        whole-segments = λ i h. omega (arith, div-add-mod' (srd-length q i) o, whole-length i h);
-        in-row = is-readable .in-row;
-        in-part = is-readable .in-part;
-        names-inside = is-readable .names-inside;
-        names-once = once;
-        whole-groups = is-readable .whole-groups;
-      }
+      let most : (g - segment-start t q i + 1) * o ≤ segment-groups t q i * o = mul-le-mul-right o (omega (arith, b)) in
+      omega (arith, inside i h, whole i h)
+
+  pub sound-naming : Sound-naming t q
+  sound-naming = record {
+    segments-inside = is-readable .segments-inside;
+    segment-inside = inside;
+    whole-segments = whole;
+    in-row = is-readable .in-row;
+    in-part = is-readable .in-part;
+    names-inside = is-readable .names-inside;
+    names-once = once;
+    whole-groups = is-readable .whole-groups;
+    octets-inside = octets-in;
+  }

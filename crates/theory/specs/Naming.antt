@@ -16,7 +16,9 @@ pub record Sound-naming (t : Part) (q : List ℕ) : Type 0 where
   -- each segment lies in its unit row, and in the part
   pub in-row : (i : ℕ) → i < headers q → first-group t q i + segment-groups t q i ≤ row-groups (t .format)
   pub in-part : (i : ℕ) → i < headers q → segment-start t q i + segment-groups t q i ≤ groups t
-  -- a group that is named is a group of the part, is in one segment alone, and has all its octets in the packet
+  -- a group that is named is a group of the part, is in one segment alone, and has all its octets in the packet, before its padding
   pub names-inside : (g : ℕ) → names t q g ≡ true → g < groups t
   pub names-once : (i j g : ℕ) → i < headers q → j < headers q → segment-names t q i g ≡ true → segment-names t q j g ≡ true → i ≡ j
   pub whole-groups : (g : ℕ) → names t q g ≡ true → length (octets-of t q g) ≡ layout-of (t .format) .octets
+  pub octets-inside : (i g : ℕ) → i < headers q → segment-names t q i g ≡ true
+      → data-start q + lengths q i + (g - segment-start t q i + 1) * layout-of (t .format) .octets ≤ payload-end q
