@@ -7,7 +7,7 @@ use Rattle.std.proofs.lemmas.List.Sorted.{sum_by-IsPermutation}
 use Rattle.std.proofs.ByRecursion.{all_shuffled}
 use Rattle.std.proofs.lemmas.Slice.Eq.{bytes_eq-Decides}
 use Rattle.std.proofs.lemmas.List.Sums.{sum_by-cons}
-use Rattle.std.proofs.lemmas.Bool.{both_ways, ltb-false, cases_lt, or_parts, ne_eqb, cond_true, cond-false}
+use Rattle.std.proofs.lemmas.Bool.{both_ways, ltb-false, cases_lt, or_parts, ne_eqb, cond-true, cond-false}
 use Rattle.fmtp.specs.declared.parameters.Parameter.{Parameter}
 use Rattle.fmtp.specs.declared.parameters.Parameter.TheVariants.{
   Sampling,
@@ -174,7 +174,7 @@ shuffled_reading : (xs ys : List EntryText) → IsPermutation xs ys → reading_
 shuffled_reading xs ys s = go (repeated xs) refl
   where
     go : (b : Bool) → repeated xs ≡ b → reading_entries xs ≡ reading_entries ys
-    go true e = cond_true _ _ _ e ∙ sym (cond_true _ _ _ (sym (twice_same xs ys s parameters) ∙ e))
+    go true e = cond-true _ _ _ e ∙ sym (cond-true _ _ _ (sym (twice_same xs ys s parameters) ∙ e))
     go false e =
         cond-false _ _ _ e
         ∙ (λ i. cond (not (permitted_same xs ys s i)) (Err 23) (consistent (record_of (λ p. entry_same xs ys s e p i))))

@@ -2,7 +2,7 @@
 use Rattle.std.proofs.Common.{◌≡◌, ℕ, ◌+◌, ◌<◌, ◌≤◌, Bool, true, false, cond, ◌&&◌, ◌||◌, eqb, ltb, List, [], ◌∷◌, ◌++◌, length, get_or, take, drop, Some, None, Option, sym, refl, ap, ◌∙◌, append_assoc, append-nil, arith}
 use Rattle.std.specs.Str.{bytes_eq}
 use Rattle.std.proofs.lemmas.List.{at_drop_more, at_drop_all, take_more, take_all}
-use Rattle.std.proofs.lemmas.Bool.{cond_true, cond-false, eq-eqb, ne_eqb}
+use Rattle.std.proofs.lemmas.Bool.{cond-true, cond-false, eq-eqb, ne_eqb}
 use Rattle.fmtp.specs.Lines.{EntryText, before, behind, blank, trimmed, every}
 use Rattle.fmtp.specs.Parameters.{parameter_text}
 use Rattle.fmtp.specs.Reading.{times, some_twice}
@@ -33,8 +33,8 @@ module _ (c : ℕ) (xs : List ℕ) (i : ℕ) where
   pub unsplit_found : i < length xs → get_or xs i 0 ≡ c → Unsplit c xs i → (take i xs ≡ before c xs) × (Some (drop (i + 1) xs) ≡ behind c xs)
   unsplit_found h e u =
       let here = eq-eqb (get_or xs i 0) c e in
-      let front = at_drop_more (before c) xs i 0 h ∙ cond_true _ [] _ here in
-      let rest = at_drop_more (behind c) xs i 0 h ∙ cond_true _ (Some (drop (i + 1) xs)) _ here in
+      let front = at_drop_more (before c) xs i 0 h ∙ cond-true _ [] _ here in
+      let rest = at_drop_more (behind c) xs i 0 h ∙ cond-true _ (Some (drop (i + 1) xs)) _ here in
       (sym (u.front ∙ ap (λ l. take i xs ++ l) front ∙ append-nil (take i xs)), sym (u.rest ∙ rest))
 
   pub unsplit_more : i < length xs → (get_or xs i 0 ≡ c → ⊥) → Unsplit c xs i → Unsplit c xs (i + 1)
@@ -57,7 +57,7 @@ module _ (c : ℕ) (xs : List ℕ) (i : ℕ) where
 
 -- what is left of a text, one octet on
 pub trimmed_more : (xs : List ℕ) (i : ℕ) → i < length xs → blank (get_or xs i 0) ≡ true → trimmed (drop i xs) ≡ trimmed (drop (i + 1) xs)
-trimmed_more xs i h e = at_drop_more trimmed xs i 0 h ∙ cond_true _ _ _ e
+trimmed_more xs i h e = at_drop_more trimmed xs i 0 h ∙ cond-true _ _ _ e
 
 pub trimmed_found : (xs : List ℕ) (i : ℕ) → i < length xs → blank (get_or xs i 0) ≡ false → trimmed (drop i xs) ≡ drop i xs
 trimmed_found xs i h e = at_drop_more trimmed xs i 0 h ∙ cond-false _ _ _ e ∙ sym (at_drop_more (λ l. l) xs i 0 h)

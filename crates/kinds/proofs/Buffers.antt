@@ -6,7 +6,7 @@ use Rattle.std.specs.List.{between}
 use Rattle.std.proofs.lemmas.List.Edits.{split_between, length-between}
 use Rattle.std.proofs.lemmas.List.{take_all}
 use Rattle.std.proofs.lemmas.Slice.{put_mid-paste}
-use Rattle.std.proofs.lemmas.Bool.{cases_Bool, cond_true, cond-false, le-leb, eq-eqb}
+use Rattle.std.proofs.lemmas.Bool.{cases_Bool, cond-true, cond-false, le-leb, eq-eqb}
 use Rattle.theory.specs.Layouts.{Layout}
 use Rattle.theory.specs.Groups.{octets_of_samples}
 use Rattle.theory.proofs.Digits.{length_digits}
@@ -42,10 +42,10 @@ module _ (l : Layout) (depth : ℕ) (xs buffer : List ℕ) (i n : ℕ) (e : n �
       let os = octets_of_samples l depth xs in
       let all = take i buffer ++ os ++ drop (i + l.octets) buffer in
       ⊎_elim
-      (λ t. let made : ys ≡ os = g ∙ cond_true (packs l depth xs part) os part (packs_part ∙ t) in
+      (λ t. let made : ys ≡ os = g ∙ cond-true (packs l depth xs part) os part (packs_part ∙ t) in
       put_part buffer ys i (i + n - i) l.octets (omega arith) (ap length made ∙ length_digits 8 l.octets _)
       ∙ ap (λ zs. take i buffer ++ zs ++ drop (i + l.octets) buffer) made
-      ∙ sym (cond_true (packs_into l depth xs buffer i) all buffer t))
+      ∙ sym (cond-true (packs_into l depth xs buffer i) all buffer t))
       (λ t. let kept : ys ≡ part = g ∙ cond-false (packs l depth xs part) os part (packs_part ∙ t) in
       put_part buffer ys i (i + n - i) n (omega arith) (ap length kept ∙ size ∙ sym e)
       ∙ ap (λ zs. take i buffer ++ zs ++ drop (i + n) buffer) kept

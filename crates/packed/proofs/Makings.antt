@@ -1,7 +1,7 @@
 -- The grid of a store: that of the frame where the check passes, the empty one where it refuses.
 use Rattle.std.proofs.Common.{◌≡◌, ℕ, zero, suc, ◌+◌, ◌<◌, ◌≤◌, Bool, true, false, cond, not, ◌&&◌, ltb, List, [], ◌∷◌, length, is_ok, Some, None, Ok, Err, Option, Result, sym, refl, ap, ◌∙◌, ap₂, zero-le, arith, lit≤}
 use mathlib.Core.Path.{fun_ext}
-use Rattle.std.proofs.lemmas.Bool.{and_parts, ltb-true, ltb-false, cond_true, cond-false, and_left, le-ltb, not_from_false, both_ways, false≢true}
+use Rattle.std.proofs.lemmas.Bool.{and_parts, ltb-true, ltb-false, cond-true, cond-false, and_left, le-ltb, not_from_false, both_ways, false≢true}
 use Rattle.refusals.specs.declared.Refusal.{Refusal}
 use Rattle.refusals.specs.Numbers.{numbered}
 use Rattle.theory.specs.Answers.{first_row, is_none, verdict}
@@ -64,7 +64,7 @@ module _ (f : Format) (room : ℕ) where
       record {
         sound = copies_sound g t copies w room long;
         picture = λ m l octets. same_picture g t copies w m (omega arith) octets
-            ∙ sym (cond_true (accepted f (length m)) (packed_picture t m) no_picture (alike true e m l));
+            ∙ sym (cond-true (accepted f (length m)) (packed_picture t m) no_picture (alike true e m l));
         beside = λ m l. same_beside g t copies m ∙ sym (ap (λ b k. cond b (bit_beside t m k) (bit_at m k)) (alike true e m l));
         first = λ _. same_bit g t copies;
       }
@@ -113,7 +113,7 @@ empty_beside m = fun_ext (λ k.
     let r = bit_row empty_grid k in
     let c = bit_column empty_grid k in
     let some = ltb r (height_at empty_grid p) && ltb c (width_at empty_grid p) in
-    cond_true (not some) (bit_at m k) 0 (not_from_false some (nowhere p r c)))
+    cond-true (not some) (bit_at m k) 0 (not_from_false some (nowhere p r c)))
 
 pub refused : (f : Format) (room : ℕ) → accepted f room ≡ false → Made f room empty_grid
 refused f room e = record {

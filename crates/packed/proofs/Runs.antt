@@ -3,7 +3,7 @@ use Rattle.std.proofs.Common.{◌≡◌, ℕ, zero, suc, ◌+◌, ◌-◌, ◌/�
 use mathlib.Core.Path.{fun_ext}
 use native.Mathlib.Nat.{div-eq_of_lt}
 use Rattle.std.proofs.lemmas.Nat.{shr-shr}
-use Rattle.std.proofs.lemmas.Bool.{cases_Bool, cond_true, cond-false, and_parts, and_from, both_ways, ltb-true, leb-true, eqb-true, lt-ltb, le-leb, not_from_true, true≢false, false≢true}
+use Rattle.std.proofs.lemmas.Bool.{cases_Bool, cond-true, cond-false, and_parts, and_from, both_ways, ltb-true, leb-true, eqb-true, lt-ltb, le-leb, not_from_true, true≢false, false≢true}
 use Rattle.std.proofs.lemmas.Bool.Decides.{nat_tests}
 use Rattle.theory.specs.Answers.{first_row}
 use Rattle.theory.specs.Pictures.{put, with_samples}
@@ -24,7 +24,7 @@ put_front m l b n x (suc j) hx h k =
     let front : run_at l b j ≡ y / 2 ^ 1 = put_front m l b n x j hx h (omega arith) ∙ ap (λ z. x / 2 ^ z) (sym e) ∙ sym (shr-shr x (n - suc j) 1) in
     let last : bit_at l (b + j) ≡ y % 2 =
     h (b + j)
-    ∙ cond_true (leb b (b + j) && ltb (b + j) (b + n)) (x / 2 ^ (b + n - 1 - (b + j)) % 2) (bit_at m (b + j)) (and_from (leb b (b + j)) (ltb (b + j) (b + n)) (le-leb b (b + j) (omega arith)) (lt-ltb (b + j) (b + n) (omega arith)))
+    ∙ cond-true (leb b (b + j) && ltb (b + j) (b + n)) (x / 2 ^ (b + n - 1 - (b + j)) % 2) (bit_at m (b + j)) (and_from (leb b (b + j)) (ltb (b + j) (b + n)) (le-leb b (b + j) (omega arith)) (lt-ltb (b + j) (b + n) (omega arith)))
     ∙ ap (λ z. x / 2 ^ z % 2) f in
     omega (arith, front, last)
 
@@ -86,10 +86,10 @@ module _ (g : Grid) (owned : Owned g) (m l : List ℕ) (p r c x : ℕ) (hr : r <
       elim (cases_Bool same) [
         | inl e ↦
             moved new q s d p r c e
-            ∙ cond_true (ltb r (height_at g p) && ltb c (width_at g p)) (run_at l (first_bit g p r c) g.depth) 0
+            ∙ cond-true (ltb r (height_at g p) && ltb c (width_at g p)) (run_at l (first_bit g p r c) g.depth) 0
             (and_from (ltb r (height_at g p)) (ltb c (width_at g p)) (lt-ltb r (height_at g p) hr) (lt-ltb c (width_at g p) hc))
             ∙ put_whole m l (first_bit g p r c) g.depth x hx bits
-            ∙ sym (cond_true same x (old q s d) e)
+            ∙ sym (cond-true same x (old q s d) e)
         | inr e ↦ elim (cases_Bool within) [
           | inl f ↦
               let parts = and_parts (ltb s (height_at g q)) (ltb d (width_at g q)) f in

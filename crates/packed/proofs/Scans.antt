@@ -1,6 +1,6 @@
 -- A search from a number on: where it ends.
 use Rattle.std.proofs.Common.{◌≡◌, ℕ, zero, suc, ◌+◌, ◌<◌, ◌≤◌, Bool, true, false, ap, ◌∙◌, inl, inr, arith}
-use Rattle.std.proofs.lemmas.Bool.{cases_eq, cond_true, cond-false}
+use Rattle.std.proofs.lemmas.Bool.{cases_eq, cond-true, cond-false}
 use Rattle.theory.specs.Octets.{first_from}
 
 module _ (f : ℕ → Bool) where
@@ -8,7 +8,7 @@ module _ (f : ℕ → Bool) where
   pub scan_met : (n a i : ℕ) → a ≤ i → i < a + n → ((j : ℕ) → a ≤ j → j < i → f j ≡ false) → f i ≡ true → first_from a n f ≡ i
   scan_met zero a i low high before e = omega arith
   scan_met (suc n) a i low high before e = elim (cases_eq a i) [
-    | inl s ↦ cond_true (f a) a (first_from (a + 1) n f) (ap f s ∙ e) ∙ s
+    | inl s ↦ cond-true (f a) a (first_from (a + 1) n f) (ap f s ∙ e) ∙ s
     | inr s ↦
         let less : a < i = grind (arith, s) in
         cond-false (f a) a (first_from (a + 1) n f) (before a (omega arith) less)

@@ -1,6 +1,6 @@
 -- The samples of one group, one after another: what a turn of the loop leaves.
 use Rattle.std.proofs.Common.{◌≡◌, ℕ, ◌+◌, ◌^◌, ◌<◌, ◌≤◌, Bool, true, ◌&&◌, eqb, ltb, List, length, sym, refl, ap, ◌∙◌, subst, arith}
-use Rattle.std.proofs.lemmas.Bool.{and_right, and_from, le-ltb, lt-ltb, eq-eqb, cond_true}
+use Rattle.std.proofs.lemmas.Bool.{and_right, and_from, le-ltb, lt-ltb, eq-eqb, cond-true}
 use Rattle.std.proofs.lemmas.Nat.{pow_pos, mod_below}
 use Rattle.std.proofs.lemmas.Bool.Decides.{nat_tests}
 use Rattle.kinds.specs.Packing.{is_group, unpacked}
@@ -59,7 +59,7 @@ module _ (t : Part) (w : LawfulLayout t.format.kind t.format.depth) (v : Picture
       let small : y < 2 ^ v.depth = subst (λ d. y < 2 ^ d) (sym (depth_of_fit v t fit)) (mod_below _ (2 ^ depth) (pow_pos depth)) in
       put
       ∙ same_put now (filled t v (first_positions n k) (group_value t os)) p (l.plane k) r (place_row t n k) c (place_column t n k) x y
-      so_far ep er ec (ex ∙ cond_true (is_group l os && ltb k l.positions) y 0 group)
+      so_far ep er ec (ex ∙ cond-true (is_group l os && ltb k l.positions) y 0 group)
       ∙ put_next t v (first_positions n k) (first_positions n (k + 1)) (group_value t os) (l.plane k) (place_row t n k) (place_column t n k) y small
       (now_chosen _ _ n k is.0 is.1)
       (ap (value_at l depth os) (sym is.1))

@@ -1,7 +1,7 @@
 -- The segments of a packet, one after another: what a turn of the loop leaves, and the packet whole.
 use Rattle.std.proofs.Common.{◌≡◌, ℕ, zero, suc, ◌+◌, ◌-◌, ◌*◌, ◌/◌, ◌<◌, ◌≤◌, Bool, true, false, cond, not, ◌&&◌, ◌||◌, ltb, leb, List, length, get_or, take, drop, Some, None, sym, refl, ap, ◌∙◌, subst, ap₂, inl, inr, div-le_self, add-one, arith, lit≤, length-drop, length-take}
 use Rattle.std.proofs.lemmas.List.{drop-take, take-take, drop-drop}
-use Rattle.std.proofs.lemmas.Bool.{both_ways, cases_order, cond_true, cond-false, and_parts, leb-true, ltb-true, lt-ltb, not-true}
+use Rattle.std.proofs.lemmas.Bool.{both_ways, cases_order, cond-true, cond-false, and_parts, leb-true, ltb-true, lt-ltb, not-true}
 use Rattle.packets.specs.Reading.{Placed, Carried, carried, segment_at}
 use Rattle.packets.specs.Carried.{segment_of}
 use Rattle.theory.specs.Octets.{bit, any_below, first_from, count_below, marked}
@@ -56,20 +56,20 @@ pub handed_out : (t : Part) (q : List ℕ) (w : Carried) (i : ℕ) (x : Placed) 
     → x ≡ segment_at t q i
 handed_out t q w i x ew h e =
     let there : Some x ≡ Some (segment_at t q i) =
-    e ∙ ap (λ y. segment_of y i) ew ∙ cond_true (ltb i (headers q)) (Some (segment_at t q i)) None (lt-ltb i (headers q) h) in
+    e ∙ ap (λ y. segment_of y i) ew ∙ cond-true (ltb i (headers q)) (Some (segment_at t q i)) None (lt-ltb i (headers q) h) in
     cc
 
 pub none_handed_out : (t : Part) (q : List ℕ) (w : Carried) (i : ℕ) → w ≡ carried t q → i < headers q → None ≡ segment_of w i → ⊥
 none_handed_out t q w i ew h e =
     let there : None ≡ Some (segment_at t q i) =
-    e ∙ ap (λ y. segment_of y i) ew ∙ cond_true (ltb i (headers q)) (Some (segment_at t q i)) None (lt-ltb i (headers q) h) in
+    e ∙ ap (λ y. segment_of y i) ew ∙ cond-true (ltb i (headers q)) (Some (segment_at t q i)) None (lt-ltb i (headers q) h) in
     let z : ◌≡◌ {A = ℕ} 0 1 = cc in omega arith
 
 -- a search that meets the first number that passes ends there
 first_is : (f : ℕ → Bool) (n a i : ℕ) → a ≤ i → i < a + n → f i ≡ true → ((j : ℕ) → j < i → f j ≡ false) → first_from a n f ≡ i
 first_is f zero a i l u e none = absurd (omega arith)
 first_is f (suc n) a i l u e none = elim (cases_order a i) [
-  | inl same ↦ cond_true (f a) a (first_from (a + 1) n f) (ap f same ∙ e) ∙ same
+  | inl same ↦ cond-true (f a) a (first_from (a + 1) n f) (ap f same ∙ e) ∙ same
   | inr (inl less) ↦ cond-false (f a) a (first_from (a + 1) n f) (none a less) ∙ first_is f n (a + 1) i (omega arith) (omega arith) e none
   | inr (inr more) ↦ absurd (omega arith)
 ]

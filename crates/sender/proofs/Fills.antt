@@ -3,7 +3,7 @@ use Rattle.std.proofs.Common.{◌≡◌, ℕ, zero, suc, ◌+◌, ◌-◌, ◌*�
 use native.Mathlib.Nat.{div-eq_of_lt, div-zero}
 use Rattle.std.proofs.lemmas.Nat.{le-div}
 use Rattle.std.proofs.lemmas.List.{take_more_set, append-nil, length-set}
-use Rattle.std.proofs.lemmas.Bool.{cond_true, cond-false, and_from, and_left, and_right, lt-ltb, le-ltb}
+use Rattle.std.proofs.lemmas.Bool.{cond-true, cond-false, and_from, and_left, and_right, lt-ltb, le-ltb}
 use Rattle.theory.specs.Formats.{Part, layout_of, groups}
 use Rattle.theory.specs.Cutting.{Segment, row_rest, segments_from, cut_groups}
 use Rattle.sender.specs.Cuts.{segment, consecutive, Holds}
@@ -23,7 +23,7 @@ module _ (t : Part) (header : ℕ) where
       let some : 0 < (left - header) / w = le-div 1 (left - header) w pos (omega arith) in
       let F : ℕ → List Segment = λ j. segment g j ∷ segments_from t header n (left - header - j * w) (g + j) in
       let less : left - header - k * w ≡ left - (header + k * w) = omega arith in
-      cond_true (ltb g (groups t) && ltb 0 ((left - header) / w)) _ _
+      cond-true (ltb g (groups t) && ltb 0 ((left - header) / w)) _ _
       (and_from _ _ (lt-ltb g (groups t) inside) (lt-ltb 0 ((left - header) / w) some))
       ∙ ap F (sym is)
       ∙ ap (λ x. segment g k ∷ segments_from t header n x (g + k)) less

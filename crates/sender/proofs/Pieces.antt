@@ -6,7 +6,7 @@ use Rattle.std.specs.Int.Digits.{AllBelowBase, number_from_digits}
 use Rattle.std.proofs.lemmas.Nat.{mul-le, mul-add-lt, div-mul-add, mod-mul-add, mod_below}
 use Rattle.std.proofs.lemmas.List.FromFn.{length-map-range_with_len, get_or-map-range_with_len, fill_by_all}
 use Rattle.std.proofs.lemmas.Slice.{take-put_mid}
-use Rattle.std.proofs.lemmas.Bool.{and_from, eq-eqb, lt-ltb, cond_true}
+use Rattle.std.proofs.lemmas.Bool.{and_from, eq-eqb, lt-ltb, cond-true}
 use Rattle.kinds.specs.Packing.{packs, packed}
 use Rattle.kinds.proofs.Tested.{under_decides}
 use Rattle.theory.specs.Layouts.{Kind, Layout, LawfulLayout, group_height, group_width}
@@ -68,7 +68,7 @@ word_inside m depth i k w h inside =
 pub packed_whole : (l : Layout) (d : ℕ) (xs os : List ℕ) → 0 < l.octets → length os ≡ l.octets → length xs ≡ l.positions → AllBelowBase (2 ^ d) xs
     → packed l d xs os ≡ octets_of_samples l d xs
 packed_whole l d xs os pos room size small =
-    cond_true (packs l d xs os) (octets_of_samples l d xs) os
+    cond-true (packs l d xs os) (octets_of_samples l d xs) os
     (and_from _ _
     (and_from _ _ (lt-ltb 0 l.octets pos) (eq-eqb (length os) l.octets room))
     (and_from _ _ (eq-eqb (length xs) l.positions size) ((under_decides (2 ^ d) xs).1 small)))

@@ -5,7 +5,7 @@ use Rattle.std.specs.List.{range_with_len}
 use Rattle.std.proofs.lemmas.Nat.{mul-le}
 use Rattle.std.proofs.lemmas.List.FromFn.{get_or-map-range_with_len, length-map-range_with_len, fill_by_all}
 use Rattle.std.proofs.lemmas.List.{append-nil, drop_all, drop-drop, get_or_append_left, get_or-append_right, get_or-replicate, get_or-take, length-append, length-replicate, length-take-le, take_at}
-use Rattle.std.proofs.lemmas.Bool.{and_cases, and_left, and_right, cases_lt, cond_true, le-ltb, leb-false, ltb-false}
+use Rattle.std.proofs.lemmas.Bool.{and_cases, and_left, and_right, cases_lt, cond-true, le-ltb, leb-false, ltb-false}
 use Rattle.refusals.specs.declared.Refusal.{Refusal}
 use Rattle.refusals.specs.Numbers.{numbered}
 use Rattle.theory.specs.Answers.{first_row, verdict}
@@ -46,7 +46,7 @@ module _ (v : Picture) (lawful : LawfulPicture v) (p r c : ℕ) (words : List �
       let f : ℕ → ℕ = λ j. v.sample p r (c + j) in
       let size : length (take m words) ≡ m = length-take-le m words (omega arith) in
       let shown : ys ≡ map f (range_with_len 0 m) =
-      ey ∙ cond_true (columns_inside v p r c (length (take m words))) _ _ (was_inside _ x e) ∙ ap (λ i. map f (range_with_len 0 i)) size in
+      ey ∙ cond-true (columns_inside v p r c (length (take m words))) _ _ (was_inside _ x e) ∙ ap (λ i. map f (range_with_len 0 i)) size in
       let long : length ys ≡ m = ap length shown ∙ length-map-range_with_len f 0 m in
       let all : length (ys ++ zs) ≡ n =
       length-append ys zs ∙ omega (arith, long, ap length ez, length-replicate {A = ℕ} k 0) in

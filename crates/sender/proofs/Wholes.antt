@@ -1,7 +1,7 @@
 -- Packet after packet, to the end of a part.
 use Rattle.std.proofs.Common.{◌≡◌, ℕ, zero, suc, ◌+◌, ◌-◌, ◌<◌, ◌≤◌, Bool, true, false, cond, List, [], ◌∷◌, ◌++◌, length, take, drop, sym, refl, ap, ◌∙◌, subst, ⊎_elim, append_assoc, arith}
 use Rattle.std.proofs.lemmas.List.{take_at}
-use Rattle.std.proofs.lemmas.Bool.{cases_Bool, cond_true, cond-false, leb-false}
+use Rattle.std.proofs.lemmas.Bool.{cases_Bool, cond-true, cond-false, leb-false}
 use Rattle.theory.specs.Formats.{Part, groups}
 use Rattle.theory.specs.Pictures.{Picture}
 use Rattle.theory.specs.Cutting.{packet, is_last, after_packet, next_sequence, packets_from, whole_part}
@@ -28,7 +28,7 @@ module _ (t : Part) (w : Limits t) (v : Picture) where
       let s : ℕ = next_sequence seq in
       ap (λ ps. packet t v seq g ∷ ps)
       (⊎_elim
-      (λ e. cond_true (is_last t g) [] (packets_from t v n s next) e ∙ sym (cond_true (is_last t g) [] (packets_from t v m s next) e))
+      (λ e. cond-true (is_last t g) [] (packets_from t v n s next) e ∙ sym (cond-true (is_last t g) [] (packets_from t v m s next) e))
       (λ e.
       let on = goes_on g h e in
       ap (λ ps. cond (is_last t g) [] ps) (enough n m s next on.1 (omega (arith, on.0)) (omega (arith, on.0))))
@@ -56,7 +56,7 @@ module _ (t : Part) (w : Limits t) (v : Picture) where
       let n : groups t - g ≡ suc (groups t - g - 1) = omega arith in
       ap (λ k. packets_from t v k seq g) n
       ∙ ap (λ ps. packet t v seq g ∷ ps)
-      (cond_true (is_last t g) [] (packets_from t v (groups t - g - 1) (next_sequence seq) (after_packet t g)) e)
+      (cond-true (is_last t g) [] (packets_from t v (groups t - g - 1) (next_sequence seq) (after_packet t g)) e)
 
   -- the packets drawn so far, and then the rest, are the whole part
   so_far : {first : ℕ} {ps : List (List ℕ)} {seq g : ℕ} → Drawn t v first ps seq g → (g < groups t) × (ps ++ rest seq g ≡ whole_part t v first)

@@ -8,7 +8,7 @@ use Rattle.std.proofs.lemmas.Nat.{and_mask}
 use Rattle.std.proofs.lemmas.List.FromFn.{fill_by_all}
 use Rattle.std.proofs.lemmas.List.{length-take-le, get_or-take, take_all, drop-drop}
 use Rattle.std.proofs.lemmas.List.Edits.{paste_none, paste_more, length-paste, drop-paste, get_or-between}
-use Rattle.std.proofs.lemmas.Bool.{cases_lt, cases_order, ltb-true, leb-true, lt-ltb, le-ltb, le-leb, lt-leb, eq-eqb, ne_eqb, and_parts, and_from, and_left, and_right, both_ways, cond_true, cond-false}
+use Rattle.std.proofs.lemmas.Bool.{cases_lt, cases_order, ltb-true, leb-true, lt-ltb, le-ltb, le-leb, lt-leb, eq-eqb, ne_eqb, and_parts, and_from, and_left, and_right, both_ways, cond-true, cond-false}
 use Rattle.theory.specs.Octets.{all_below}
 use Rattle.theory.specs.Answers.{first_row, is_none, answer, verdict}
 use Rattle.theory.specs.Pictures.{Picture, inside, with_samples, put, show_answer, put_refusal, put_answer, put_after, columns_inside, put_row, put_row_refusal, put_row_after}
@@ -43,7 +43,7 @@ module _ (old c d : ℕ) where
   run_right xs h = cond-false _ (get_or xs (d - c) 0) old (and_right (leb c d) (ltb d (c + length xs)) (le-ltb d (c + length xs) h))
 
   run_in : (xs : List ℕ) → c ≤ d → d < c + length xs → run xs ≡ get_or xs (d - c) 0
-  run_in xs h k = cond_true _ (get_or xs (d - c) 0) old (and_from (leb c d) (ltb d (c + length xs)) (le-leb c d h) (lt-ltb d (c + length xs) k))
+  run_in xs h k = cond-true _ (get_or xs (d - c) 0) old (and_from (leb c d) (ltb d (c + length xs)) (le-leb c d h) (lt-ltb d (c + length xs) k))
 
   run_front : (xs : List ℕ) (n : ℕ) → n ≤ length xs → c ≤ d → d < c + n → run (take n xs) ≡ get_or xs (d - c) 0
   run_front xs n h k l = run_in (take n xs) k (omega (arith, length-take-le n xs h)) ∙ get_or-take n xs (d - c) 0 (omega arith)
@@ -53,7 +53,7 @@ module _ (old c d : ℕ) where
       elim (cases_order d (c + i)) [
         | inl e ↦
             let same : i ≡ d - c = omega arith in
-            cond_true (eqb d (c + i)) (get_or xs i 0) (run (take i xs)) (eq-eqb d (c + i) e)
+            cond-true (eqb d (c + i)) (get_or xs i 0) (run (take i xs)) (eq-eqb d (c + i) e)
             ∙ ap (λ n. get_or xs n 0) same
             ∙ sym (run_front xs (i + 1) (omega arith) (omega arith) (omega arith))
         | inr (inl less) ↦
@@ -191,4 +191,4 @@ words_shown v ws p r c n at mask ys fits here low long each =
     ∙ ap (bit_and (get_or (between at (at + n) ws) k 0)) low
     ∙ and_mask (get_or (between at (at + n) ws) k 0) v.depth
     ∙ ap (λ x. x % 2 ^ v.depth) (get_or-between ws at (at + n) k 0 (omega arith) ∙ ap (λ m. get_or ws m 0) place)
-    ∙ sym (cond_true (inside v p r (c + k)) _ 0 (column_inside v p r c n k fits h)))
+    ∙ sym (cond-true (inside v p r (c + k)) _ 0 (column_inside v p r c n k fits h)))

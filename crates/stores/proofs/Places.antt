@@ -2,7 +2,7 @@
 use Rattle.std.proofs.Common.{◌≡◌, ℕ, zero, suc, ◌+◌, ◌-◌, ◌*◌, ◌/◌, ◌%◌, ◌^◌, ◌<◌, ◌≤◌, true, cond, ◌&&◌, eqb, ltb, ◌≢◌, List, length, get_or, set, sym, ap, ◌∙◌, subst, inl, inr, mod-eq_of_lt, arith, get_or-set_other, get_or-set_same}
 use mathlib.Core.Path.{fun_ext}
 use Rattle.std.proofs.lemmas.Nat.{mul-le, mul-add-lt, div-mul-add, mod-mul-add}
-use Rattle.std.proofs.lemmas.Bool.{cases_lt, cases_eq, cases_order, cases_Bool, ltb-true, eqb-true, eq-eqb, and_parts, and_from, both_ways, cond_true, cond-false}
+use Rattle.std.proofs.lemmas.Bool.{cases_lt, cases_eq, cases_order, cases_Bool, ltb-true, eqb-true, eq-eqb, and_parts, and_from, both_ways, cond-true, cond-false}
 use Rattle.theory.specs.Pictures.{Picture, inside, put, with_samples}
 use Rattle.stores.specs.Words.{plane_start, word_at, in_words}
 
@@ -62,10 +62,10 @@ module _ (v : Picture) (ws : List ℕ) (p r c x : ℕ) (within : word_at v p r c
             let left = and_parts (eqb q p && eqb t r) (eqb d c) e in
             let parts = and_parts (eqb q p) (eqb t r) left.0 in
             moved new q t d p r c (eqb-true q p parts.0) (eqb-true t r parts.1) (eqb-true d c left.1)
-            ∙ cond_true (inside v p r c) (get_or (set ws i x) i 0 % 2 ^ v.depth) 0 place
+            ∙ cond-true (inside v p r c) (get_or (set ws i x) i 0 % 2 ^ v.depth) 0 place
             ∙ ap (λ n. n % 2 ^ v.depth) (get_or-set_same ws i x 0 within)
             ∙ mod-eq_of_lt small
-            ∙ sym (cond_true same x (old q t d) e)
+            ∙ sym (cond-true same x (old q t d) e)
         | inr e ↦
             elim (cases_Bool (inside v q t d)) [
               | inl f ↦

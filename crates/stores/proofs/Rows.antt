@@ -1,7 +1,7 @@
 -- A put into a field, of a sample or of a row, is a put into its frame, and leaves the other field.
 use Rattle.std.proofs.Common.{◌≡◌, ℕ, ◌+◌, ◌-◌, ◌*◌, ◌^◌, ◌≤◌, Bool, true, false, cond, not, ◌&&◌, eqb, ltb, leb, List, [], ◌∷◌, length, get_or, Some, None, Ok, Err, Option, Result, sym, refl, ap, ◌∙◌, inl, inr, arith}
 use mathlib.Core.Path.{fun_ext}
-use Rattle.std.proofs.lemmas.Bool.{leb-true, le-ltb, eq-eqb, ne_eqb, cases_eq, and_right, cond_true, cond-false}
+use Rattle.std.proofs.lemmas.Bool.{leb-true, le-ltb, eq-eqb, ne_eqb, cases_eq, and_right, cond-true, cond-false}
 use Rattle.theory.specs.Octets.{all_below}
 use Rattle.theory.specs.Answers.{first_row, is_none}
 use Rattle.theory.specs.Pictures.{Picture, put_refusal, put_after, put_row_refusal, put_row_after, with_samples, field_of, no_picture}
@@ -76,7 +76,7 @@ module _ (p : ℕ) (refuses : ℕ → ℕ → Bool → Option ℕ) (new : Bool �
     }
       where
         is_field : (u : Picture) → field_picture u f ≡ field_of u f
-        is_field u = cond_true (leb f 1) (field_of u f) no_picture good
+        is_field u = cond-true (leb f 1) (field_of u f) no_picture good
 
         by : (b : Bool) → other_field (cond b (changed v (2 * r + f)) v) f ≡ other_field v f
         by true = other_changed (leb-true f 1 good)

@@ -1,7 +1,7 @@
 -- What a cut gives: one to three segments in a chain, of so many octets together.
 use Rattle.std.proofs.Common.{◌≡◌, ℕ, zero, suc, ◌+◌, ◌-◌, ◌*◌, ◌/◌, ◌%◌, ◌<◌, ◌≤◌, min, ◌&&◌, eqb, ltb, ◌⊎◌, List, [], ◌∷◌, length, sym, refl, ap, ◌∙◌, subst, inl, inr, ⊎_elim, not-suc-le-zero, mul-le-mul_right, mul_assoc, mul_comm, add-mul, div-add-mod', zero-mul, div-mul-le_self, add-one, arith}
 use native.Mathlib.Nat.{mul-mod_left, mul-sub}
-use Rattle.std.proofs.lemmas.Bool.{cases_lt, cond_both, cond_true, and_parts, and_from, and_cases, ltb-true, ltb-false, lt-ltb, eqb-true, eqb-false}
+use Rattle.std.proofs.lemmas.Bool.{cases_lt, cond_both, cond-true, and_parts, and_from, and_cases, ltb-true, ltb-false, lt-ltb, eqb-true, eqb-false}
 use Rattle.std.proofs.lemmas.Nat.{le-div, mod_below}
 use Rattle.theory.specs.Formats.{Part, layout_of, row_groups, groups}
 use Rattle.theory.specs.Cutting.{Segment, row_rest, segments_from, cut, cut_groups}
@@ -140,7 +140,7 @@ takes_some : (t : Part) (p n space g : ℕ) → g < groups t → 0 < (space - p)
     → 1 ≤ length (segments_from t p (suc n) space g)
 takes_some t p n space g h r =
     let a : ℕ = (space - p) / (layout_of t.format).octets in
-    subst (λ ss. 1 ≤ length ss) (sym (cond_true (ltb g (groups t) && ltb 0 a) _ _ (and_from _ _ (lt-ltb g (groups t) h) (lt-ltb 0 a r))))
+    subst (λ ss. 1 ≤ length ss) (sym (cond-true (ltb g (groups t) && ltb 0 a) _ _ (and_from _ _ (lt-ltb g (groups t) h) (lt-ltb 0 a r))))
     (omega arith)
 
 pub cut_good : (t : Part) → Limits t → (g : ℕ) → g < groups t → CutGood t g (cut t g)

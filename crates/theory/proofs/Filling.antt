@@ -1,7 +1,7 @@
 -- Filling a picture: nothing, the same, one filling after another, and one sample more; an offer fills the picture.
 use Rattle.std.proofs.Common.{◌≡◌, ℕ, ◌^◌, ◌<◌, Bool, true, false, cond, not, ◌&&◌, ◌||◌, eqb, leb, List, Some, None, sym, refl, ap, ◌∙◌, ap₂, ⊎_elim}
 use mathlib.Core.Path.{fun_ext}
-use Rattle.std.proofs.lemmas.Bool.{cases_Bool, both_ways, cond_true, cond-false, and_from, and_parts, and_right, eqb-true, eq-eqb, lt-leb}
+use Rattle.std.proofs.lemmas.Bool.{cases_Bool, both_ways, cond-true, cond-false, and_from, and_parts, and_right, eqb-true, eq-eqb, lt-leb}
 use Rattle.theory.specs.Formats.{Part, layout_of}
 use Rattle.theory.specs.Pictures.{Picture, inside, with_samples, put, put_after}
 use Rattle.theory.specs.Answers.{is_none}
@@ -86,7 +86,7 @@ put_next t v w x f p r c y small here value other =
     there i =
         let g = group_of t p r c in
         let n = position_in_group t p r c in
-        value ∙ sym (cond_true (inside v p r c && x g n) (f g n) (v.sample p r c) (and_from (inside v p r c) (x g n) i here))
+        value ∙ sym (cond-true (inside v p r c && x g n) (f g n) (v.sample p r c) (and_from (inside v p r c) (x g n) i here))
 
     at : inside v p r c ≡ true → (q s d : ℕ) → (put (filled t v w f) p r c y).sample q s d ≡ (filled t v x f).sample q s d
     at i q s d =
@@ -98,7 +98,7 @@ put_next t v w x f p r c y small here value other =
         (λ e.
         let one = and_parts (eqb q p && eqb s r) (eqb d c) e in
         let two = and_parts (eqb q p) (eqb s r) one.0 in
-        cond_true same y then e
+        cond-true same y then e
         ∙ there i
         ∙ moved (filled t v x f).sample q s d (eqb-true q p two.0) (eqb-true s r two.1) (eqb-true d c one.1))
         (λ e.

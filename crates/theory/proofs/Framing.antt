@@ -1,6 +1,6 @@
 -- A packet made of RTP fields, one to three segments and data reads back as these.
 use Rattle.std.proofs.Common.{◌≡◌, ℕ, zero, suc, ◌+◌, ◌*◌, ◌/◌, ◌%◌, ◌<◌, ◌≤◌, Bool, true, false, cond, eqb, ltb, List, [], ◌∷◌, ◌++◌, length, get_or, drop, refl, ap, ◌∙◌, not-suc-le-zero, arith}
-use Rattle.std.proofs.lemmas.Bool.{cond_true, cond-false, eq-eqb, ne_eqb}
+use Rattle.std.proofs.lemmas.Bool.{cond-true, cond-false, eq-eqb, ne_eqb}
 use Rattle.theory.specs.Octets.{octet, number16, number32, octets16}
 use Rattle.theory.specs.Formats.{Part, layout_of, row_groups, rows}
 use Rattle.theory.specs.Packets.{version, padded, marker, payload_start, payload_end, padding, header, headers, continues, srd_length, srd_field, srd_row, srd_offset}
@@ -149,7 +149,7 @@ reads_two t seq last a b body w fa fb =
       type_is = type_bits last _ w.type_small;
       ssrc_is = four_octets _ w.ssrc_small;
       time_is = four_octets _ w.time_small;
-      headers_are = cond_true _ _ _ h₀.more_is ∙ cond-false _ _ _ h₁.more_is;
+      headers_are = cond-true _ _ _ h₀.more_is ∙ cond-false _ _ _ h₁.more_is;
       each = λ i l. only_1 (λ i. HeaderIs t q i (seg (a ∷ b ∷ []) i) (ltb (i + 1) 2)) h₀ h₁ i l;
       size = omega arith;
       rest = refl;
@@ -177,7 +177,7 @@ reads_three t seq last a b c body w fa fb fc =
       type_is = type_bits last _ w.type_small;
       ssrc_is = four_octets _ w.ssrc_small;
       time_is = four_octets _ w.time_small;
-      headers_are = cond_true _ _ _ h₀.more_is ∙ cond_true _ _ _ h₁.more_is;
+      headers_are = cond-true _ _ _ h₀.more_is ∙ cond-true _ _ _ h₁.more_is;
       each = λ i l. below_3 (λ i. HeaderIs t q i (seg (a ∷ b ∷ c ∷ []) i) (ltb (i + 1) 3)) h₀ h₁ h₂ i l;
       size = omega arith;
       rest = refl;

@@ -4,7 +4,7 @@ use native.Mathlib.Nat.{zero-div}
 use lib.ListN.{length-replicate}
 use Rattle.std.proofs.lemmas.List.{get_or_append_left, get_or-append_right, get_or-drop, get_or-replicate}
 use Rattle.std.proofs.lemmas.List.FromFn.{length-map-range_with_len, get_or-map-range_with_len}
-use Rattle.std.proofs.lemmas.Bool.{leb-true, le-ltb, cases_lt, cond_true, cond-false, and_parts, not_from_true}
+use Rattle.std.proofs.lemmas.Bool.{leb-true, le-ltb, cases_lt, cond-true, cond-false, and_parts, not_from_true}
 use Rattle.theory.specs.Answers.{first_row, is_none, answer}
 use Rattle.theory.specs.Octets.{AllOctets, bit, number_of_bits, map_of_bits}
 use Rattle.theory.specs.Formats.{Part, groups, map_octets, lawful_format}
@@ -188,7 +188,7 @@ pub samples : {s : Start} {es : List Event} {v : Picture} {m : List ℕ} → Rea
     → v.sample p r c ≡ sample_from s p r c (earliest s.part (group_of s.part p r c) (packets_taken es))
 samples {s} {es} {v} {m} re p r c h =
     all_samples re p r c
-    ∙ cond_true (inside s.picture p r c) (sample_from s p r c (earliest s.part (group_of s.part p r c) (packets_taken es)))
+    ∙ cond-true (inside s.picture p r c) (sample_from s p r c (earliest s.part (group_of s.part p r c) (packets_taken es)))
     (s.picture.sample p r c) (rw (shape re) at h)
 
 -- what an offer answers now

@@ -1,7 +1,7 @@
 -- Where a place lies: its group, and its position there.
 use Rattle.std.proofs.Common.{◌≡◌, ℕ, zero, suc, ◌+◌, ◌*◌, ◌/◌, ◌%◌, ◌<◌, ◌≤◌, true, ◌&&◌, eqb, ltb, List, sym, ap, ◌∙◌, subst, inl, inr, not-suc-le-zero, mul_assoc, lt_of_mul-lt-mul_right, div-add-mod', zero-mul, arith}
 use lib.Arith.{digits_lt}
-use Rattle.std.proofs.lemmas.Bool.{cond_true, lt-ltb, eqb-true, and_parts, ltb-true, cases_lt}
+use Rattle.std.proofs.lemmas.Bool.{cond-true, lt-ltb, eqb-true, and_parts, ltb-true, cases_lt}
 use Rattle.std.proofs.lemmas.Nat.{div_below, div-mul-add, mod-mul-add, mod_below}
 use Rattle.theory.specs.Octets.{ceil_div}
 use Rattle.theory.specs.Layouts.{Layout, LawfulLayout, group_height, group_width}
@@ -57,13 +57,13 @@ module _ (t : Part) (w : LawfulLayout t.format.kind t.format.depth) where
   in_row p c h i =
       let s : ℕ = (layout_of t.format).column_step p in
       in_cell c s (layout_of t.format).columns t.format.width (w.column_steps p h).0 w.columns_range.0 (w.column_steps p h).1
-      (subst (λ x. c < x) (cond_true (ltb p t.format.kind.planes) (ceil_div t.format.width s) 0 (lt-ltb p t.format.kind.planes h)) i)
+      (subst (λ x. c < x) (cond-true (ltb p t.format.kind.planes) (ceil_div t.format.width s) 0 (lt-ltb p t.format.kind.planes h)) i)
 
   pub in_part : (p r : ℕ) → p < t.format.kind.planes → r < plane_height t p → r / height_in t p < unit_rows t
   in_part p r h i =
       let s : ℕ = (layout_of t.format).row_step p in
       in_cell r s t.format.kind.rows (rows t) (w.row_steps p h).0 w.rows_range.0 (w.row_steps p h).1
-      (subst (λ x. r < x) (cond_true (ltb p t.format.kind.planes) (ceil_div (rows t) s) 0 (lt-ltb p t.format.kind.planes h)) i)
+      (subst (λ x. r < x) (cond-true (ltb p t.format.kind.planes) (ceil_div (rows t) s) 0 (lt-ltb p t.format.kind.planes h)) i)
 
   -- the group of a place of a plane is a group of the part
   pub group_inside : (p r c : ℕ) → p < t.format.kind.planes → r < plane_height t p → c < plane_width t p → group_of t p r c < groups t

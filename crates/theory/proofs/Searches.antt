@@ -1,7 +1,7 @@
 -- Searches below a number, and division rounded up.
 use Rattle.std.proofs.Common.{◌≡◌, ℕ, zero, suc, ◌+◌, ◌-◌, ◌*◌, ◌<◌, ◌≤◌, Bool, true, false, Decides, sym, refl, ap, ◌∙◌, ⊎_elim, add-mul, div-mul-le_self, add-one, arith}
 use native.Mathlib.Nat.{lt-div-mul-add}
-use Rattle.std.proofs.lemmas.Bool.{cases_Bool, cond_true, cond-false, or_from, both_ways}
+use Rattle.std.proofs.lemmas.Bool.{cases_Bool, cond-true, cond-false, or_from, both_ways}
 use Rattle.std.proofs.lemmas.Bool.Decides.{Decides-below_and, Decides-below_or}
 use Rattle.std.proofs.lemmas.Nat.{le-div}
 use Rattle.theory.specs.Octets.{ceil_div, first_from, any_below, all_below}
@@ -24,7 +24,7 @@ pub first_from_finds : (f : ℕ → Bool) (n a i : ℕ) → a ≤ i → i < a + 
 first_from_finds f zero a i low high e = absurd (omega arith)
 first_from_finds f (suc n) a i low high e =
     ⊎_elim
-    (λ t. let s : first_from a (suc n) f ≡ a = cond_true (f a) a (first_from (a + 1) n f) t in (omega arith, ap f s ∙ t))
+    (λ t. let s : first_from a (suc n) f ≡ a = cond-true (f a) a (first_from (a + 1) n f) t in (omega arith, ap f s ∙ t))
     (λ t. let s : first_from a (suc n) f ≡ first_from (a + 1) n f = cond-false (f a) a (first_from (a + 1) n f) t in
     let ne : a ≡ i → ⊥ = λ q. both_ways (f i) (ap f (sym q) ∙ t) e in
     let r = first_from_finds f n (a + 1) i (grind (arith, ne)) (omega arith) e in

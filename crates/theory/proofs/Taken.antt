@@ -21,7 +21,7 @@ member_last [] x q e = Memᴰ.head e
 member_last (y ∷ ys) x q e = Memᴰ.tail (member_last ys x q e)
 
 member_before : (qs : List (List ℕ)) (x q : List ℕ) → Memᴰ q qs → Memᴰ q (qs ++ x ∷ [])
-member_before [] x q h = absurd (Memᴰ.not_nil h)
+member_before [] x q h = absurd (Memᴰ.not-nil h)
 member_before (y ∷ ys) x q h = ⊎_elim (λ e. Memᴰ.head e) (λ k. Memᴰ.tail (member_before ys x q k)) (Memᴰ.cases_cons h)
 
 cases_last : (qs : List (List ℕ)) (x q : List ℕ) → Memᴰ q (qs ++ x ∷ []) → Memᴰ q qs ⊎ (q ≡ x)
@@ -47,7 +47,7 @@ taken_of_offered (counted r) q e h = taken_of_offered r q e h
 pub offered_of_taken : {s : Start} {es : List Event} {v : Picture} {m : List ℕ} → Reached s es v m → (q : List ℕ)
     → Memᴰ q (packets_taken es)
     → Memᴰ q (packets_offered es) × (refusal s q ≡ None)
-offered_of_taken opened q h = absurd (Memᴰ.not_nil h)
+offered_of_taken opened q h = absurd (Memᴰ.not-nil h)
 offered_of_taken {s} (offered {es = es} {v = v} {m = m} r x) q h =
     go (offer_refusal s.part v m x) refl (λ k. offered_of_taken r q k)
     (subst (Memᴰ q) (takes_more (offer_refusal s.part v m x) (set_count s.part v m x) x es) h)

@@ -1,6 +1,6 @@
 -- Of the worked cases, those that want more than computing.
 use Rattle.std.proofs.Common.{◌≡◌, ℕ, zero, suc, ◌^◌, ◌<◌, ◌≤◌, false, not, ◌&&◌, ltb, List, [], ◌∷◌, Some, refl, ap, arith, lit<}
-use Rattle.std.proofs.lemmas.Bool.{cond_both, cond_true, cond-false, le-ltb, and_right}
+use Rattle.std.proofs.lemmas.Bool.{cond_both, cond-true, cond-false, le-ltb, and_right}
 use Rattle.std.proofs.lemmas.Nat.{pow_pos}
 use Rattle.theory.specs.Octets.{octet, ceil_div}
 use Rattle.theory.specs.Kinds.{ycc422, half_layout}
@@ -68,4 +68,4 @@ never_allowed w h scan type source = and_right _ _ refl
 pub never_opened : (w h scan type source time field : ℕ) (m : List ℕ)
     → open_refusal (record { format = block16 w h scan type source; timestamp = time; field = field }) m ≡ Some 4
 never_opened w h scan type source time field m =
-    cond_true (not (lawful_format (block16 w h scan type source))) (Some 4) _ (ap not (never_allowed w h scan type source))
+    cond-true (not (lawful_format (block16 w h scan type source))) (Some 4) _ (ap not (never_allowed w h scan type source))

@@ -1,5 +1,5 @@
 use Rattle.std.proofs.Common.{◌≡◌, ◌≤◌, cond, sym, ◌∙◌, arith}
-use Rattle.std.proofs.lemmas.Bool.{cond_true, cond-false}
+use Rattle.std.proofs.lemmas.Bool.{cond-true, cond-false}
 use Rattle.formats.specs.Meaning.{part_of}
 use Rattle.sender.proofs.Sizes.{limits}
 use Rattle.sender.proofs.Heads.{header_is}
@@ -19,7 +19,7 @@ pub returns : goal.returns
 returns g c =
     let last = c.args.last in
     let marker : c.if-last.marker ≡ cond last 128 0 = elim c.if-last.branch [
-      | then-last x ↦ x.marker_is ∙ sym (cond_true last 128 0 x.if-last.true)
+      | then-last x ↦ x.marker_is ∙ sym (cond-true last 128 0 x.if-last.true)
       | else-last x ↦ x.marker_is ∙ sym (cond-false last 128 0 x.if-last.false)
     ] in
     header_is (part_of g.K.GroupKind.kind c.args.part.now) c.args.sequence c.if-last.marker last

@@ -1,5 +1,5 @@
 use Rattle.std.proofs.Common.{length, sym, ◌∙◌}
-use Rattle.std.proofs.lemmas.Bool.{cond_true, cond-false}
+use Rattle.std.proofs.lemmas.Bool.{cond-true, cond-false}
 use Rattle.formats.specs.Meaning.{format_of}
 use Rattle.stores.specs.Words.{planar_refusal}
 use Rattle.stores.proofs.Checks.{ok_none}
@@ -10,7 +10,7 @@ returns-then-is-ok g c =
     let f = format_of g.K.GroupKind.kind c.args.format.now in
     let n = length c.args.words.now in
     let same = ok_none c.check.result (planar_refusal f n) c.check.ensures in
-    c.of-frame.ensures ∙ sym (cond_true _ _ _ (sym same ∙ sym c.is-ok.ensures.value ∙ c.if-is-ok.true))
+    c.of-frame.ensures ∙ sym (cond-true _ _ _ (sym same ∙ sym c.is-ok.ensures.value ∙ c.if-is-ok.true))
 
 pub returns-else-is-ok : goal.returns-else-is-ok
 returns-else-is-ok g c =

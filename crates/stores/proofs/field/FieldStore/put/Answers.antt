@@ -1,5 +1,5 @@
 use Rattle.std.proofs.Common.{sym, ap, ◌∙◌}
-use Rattle.std.proofs.lemmas.Bool.{cond_true}
+use Rattle.std.proofs.lemmas.Bool.{cond-true}
 use Rattle.theory.specs.Answers.{verdict}
 use Rattle.theory.specs.Pictures.{put_answer, put_after}
 use Rattle.stores.specs.Fields.{field_picture, other_field}
@@ -23,5 +23,5 @@ returns-in-Some g c =
       rest = ap (λ b. (b, f, other_field (g.S.Store.picture c.put.new.self) f)) c.put.ensures.rest
           ∙ ap (λ u. (g.S.Store.rest c.args.self.now.below, f, u)) (ap (λ u. other_field u f) after ∙ through.other);
       kept = kept_by c.put.result _ _ (λ e. ap (λ b. record { below = b; field = f }) e) c.put.ensures.kept;
-      below = after ∙ sym (cond_true _ _ v is.1);
+      below = after ∙ sym (cond-true _ _ v is.1);
     }

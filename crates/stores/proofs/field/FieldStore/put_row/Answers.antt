@@ -1,5 +1,5 @@
 use Rattle.std.proofs.Common.{sym, ap, ◌∙◌}
-use Rattle.std.proofs.lemmas.Bool.{cond_true}
+use Rattle.std.proofs.lemmas.Bool.{cond-true}
 use Rattle.theory.specs.Answers.{verdict}
 use Rattle.theory.specs.Pictures.{put_row_answer, put_row_after}
 use Rattle.stores.specs.Fields.{field_picture, other_field}
@@ -23,5 +23,5 @@ returns-in-Some g c =
       rest = ap (λ b. (b, f, other_field (g.S.Store.picture c.put_row.new.self) f)) c.put_row.ensures.rest
           ∙ ap (λ u. (g.S.Store.rest c.args.self.now.below, f, u)) (ap (λ u. other_field u f) after ∙ through.other);
       kept = kept_by c.put_row.result _ _ (λ e. ap (λ b. record { below = b; field = f }) e) c.put_row.ensures.kept;
-      below = after ∙ sym (cond_true _ _ v is.1);
+      below = after ∙ sym (cond-true _ _ v is.1);
     }

@@ -1,6 +1,6 @@
 use Rattle.std.proofs.Common.{ℕ, ◌<◌, ◌≤◌, length, Ok, Err, sym, ap, ◌∙◌, subst}
 use Rattle.std.proofs.lemmas.Result.{err_from_is_err_and}
-use Rattle.std.proofs.lemmas.Bool.{cond_true, cond-false, lt-ltb, le-ltb}
+use Rattle.std.proofs.lemmas.Bool.{cond-true, cond-false, lt-ltb, le-ltb}
 use Rattle.refusals.specs.Numbers.{number_of, numbered}
 use Rattle.formats.specs.Frames.{planar_words}
 use Rattle.formats.specs.Meaning.{format_of}
@@ -17,7 +17,7 @@ pub returns-then-words-planar-words : goal.returns-then-words-planar-words
 returns-then-words-planar-words g c =
     let f = format_of g.K.GroupKind.kind c.args.format.now in
     let n = length c.args.words.now in
-    sym (memory_tells f n c.in-ok-check.ensures ∙ cond_true _ (Err 3) (Ok tt) (lt-ltb n (planar_words f) (let P : ℕ → Type 0 = λ m. n < m in subst P c.planar_words.ensures c.if-words-planar-words.true)))
+    sym (memory_tells f n c.in-ok-check.ensures ∙ cond-true _ (Err 3) (Ok tt) (lt-ltb n (planar_words f) (let P : ℕ → Type 0 = λ m. n < m in subst P c.planar_words.ensures c.if-words-planar-words.true)))
 
 pub returns : goal.returns
 returns g c =

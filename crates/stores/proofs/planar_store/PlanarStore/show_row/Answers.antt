@@ -1,5 +1,5 @@
 use Rattle.std.proofs.Common.{◌+◌, ◌≤◌, not, [], ◌∷◌, length, sym, ap, ◌∙◌, arith, rules}
-use Rattle.std.proofs.lemmas.Bool.{cond_true}
+use Rattle.std.proofs.lemmas.Bool.{cond-true}
 use Rattle.theory.specs.Answers.{first_row, verdict}
 use Rattle.stores.specs.Shapes.{blank}
 use Rattle.stores.proofs.Puts.{first_found, words_within}
@@ -32,5 +32,5 @@ returns c =
       samples =
           words_shown (blank s.shape) s.words.now p r k (length xs) c.in-Some.at c.largest.result c.copy-masked.new.samples
           found.1 found.0 c.largest.ensures c.copy-masked.auto.samples c.copy-masked.ensures
-          ∙ sym (cond_true _ _ xs found.1);
+          ∙ sym (cond-true _ _ xs found.1);
     }

@@ -1,6 +1,6 @@
 use Rattle.std.proofs.Common.{◌≡◌, ℕ, ◌+◌, ◌<◌, true, not, ◌≢◌, [], ◌∷◌, length, sym, ap, ◌∙◌, arith, get_or-set_other, get_or-set_same, below_more}
 use Rattle.std.proofs.lemmas.List.FromFn.{fill_by_all}
-use Rattle.std.proofs.lemmas.Bool.{cond_true}
+use Rattle.std.proofs.lemmas.Bool.{cond-true}
 use Rattle.theory.specs.Answers.{first_row, verdict}
 use Rattle.theory.specs.Pictures.{columns_inside}
 use Rattle.stores.proofs.Columns.{columns_told, shown}
@@ -39,5 +39,5 @@ returns g c =
     record {
       answer = sym (ap (λ b. verdict (first_row ((not b, 1) ∷ []))) all);
       samples = fill_by_all f c.loop-i.samples (length xs) 0 c.loop-i.auto.samples (λ k h. c.loop-i.invariant k (omega (arith, c.loop-i-test.false)))
-          ∙ sym (cond_true _ _ xs all);
+          ∙ sym (cond-true _ _ xs all);
     }
