@@ -2,6 +2,7 @@
 //! A line that begins `packet ` has a timestamp, a field and a packet in hex, which is read for that part of the last format.
 //! Any other line is a format line: what it announces and what follows is said, or why it is refused.
 //! The program's two arguments, if given, are the payload type and the SSRC of the streams; else they are 96 and 1.
+#![tactic(auto)]
 
 mod geometry;
 mod octets;

@@ -2,6 +2,7 @@
 //! A kind answers for each of its depths how a group is laid out, and keeps the laws of a kind.
 //! `pack` writes the samples of a group as its octets and `unpack` reads a sample back, for every kind with the laws.
 //! Every call is total: what is not of the kind answers 0 or false, and leaves the memory as it was.
+#![tactic(auto)]
 
 mod kind;
 mod packing;

@@ -1,5 +1,6 @@
 //! Tries a table of format lines: each line of standard input has a number, a blank and a format line, and
 //! the number is that of the refusal, or 0 where the line is read. Says which answers differ, and how many agree.
+#![tactic(auto)]
 
 use fmtp::read;
 use std::io::{BufRead, BufReader};

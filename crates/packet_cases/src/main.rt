@@ -1,6 +1,7 @@
 //! Tries a table of packets. Each row of standard input has a letter for the format, a timestamp, a field and a packet in hex; then the
 //! answer that is due: the number of the refusal, or 0 with the marker, the number of segments and five numbers for each segment.
 //! Says which rows differ, and how many agree.
+#![tactic(auto)]
 
 mod parts;
 mod words;

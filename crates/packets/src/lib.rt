@@ -2,6 +2,7 @@
 //! Reading is total, for any octets and any part. It answers the first row of the refusal table that holds, or the packet;
 //! the packet answers its marker and its segments, each as that part of the octets with its place.
 //! A packet that is not refused names groups of the part only, each at most once, and all their octets lie in it.
+#![tactic(auto)]
 
 mod checks;
 mod division;

@@ -1,5 +1,6 @@
 //! What a format line announces: a record with a named value for each parameter.
 //! An absent parameter stays absent; the `_or_default` questions tell what then holds.
+#![tactic(auto)]
 
 ghost use Rattle.std.specs.Prelude.{◌≡◌};
 ghost use Rattle.records.specs.Defaults.{transfer_told, range_told, max_udp_told, pixel_aspect_told};

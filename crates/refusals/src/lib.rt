@@ -1,5 +1,6 @@
 //! Why a call refuses: one enum for the whole product, with the number and the words of each case.
 //! Contracts speak of a refusal by its number, the one that `number_of` in `specs/` gives.
+#![tactic(auto)]
 
 ghost use Rattle.std.specs.Prelude.{◌≡◌};
 ghost use Rattle.refusals.specs.Numbers.{number_of};

@@ -1,5 +1,6 @@
 //! Reads a script from standard input, one command a line, and says what came of each; `command.rt` lists the commands.
 //! Commands that want a stream, a store or an open part stand below the command that gives it.
+#![tactic(auto)]
 
 mod command;
 mod demo;

@@ -1,4 +1,5 @@
 //! Sending: a part is opened, and its packets are drawn from a store, one after another.
+#![tactic(auto)]
 
 mod cutting;
 mod depth;

@@ -1,5 +1,7 @@
-// The definitions of the subject, ST 2110-20 over RTP, and the theorems about them.
-// Crates above cite the definitions (specs/) and the lemmas (proofs/). The functions here do nothing: each carries one theorem in its contract.
+//! The definitions of the subject, ST 2110-20 over RTP, and the theorems about them.
+//! Crates above cite the definitions (specs/) and the lemmas (proofs/). The functions here do nothing: each carries one theorem in its contract.
+#![tactic(auto)]
+
 ghost use Rattle.theory.specs.Cases.{WorkedCases};
 ghost use Rattle.theory.specs.Claims.{GroupsRoundTrip, PartsAreWhole, RefusalsChangeNothing, RunsKeepTheLaw, StandardKinds, TakenAreReadable};
 
