@@ -8,5 +8,5 @@ loop-y-preserved c = (omega (arith, c.loop-y-test.true), λ k. both_step c.loop-
 
 pub returns : goal.returns
 returns c =
-    euclid c.args.a c.args.b c.loop-y.x c.requires.a-positive c.requires.b-positive c.loop-y.invariant.0
+    euclid c.args.a c.args.b c.loop-y.x c.requires.a_positive c.requires.b_positive c.loop-y.invariant.0
     (λ k. ap (λ y. divides_both c.loop-y.x y k) (sym c.loop-y-test.false) ∙ c.loop-y.invariant.1 k)

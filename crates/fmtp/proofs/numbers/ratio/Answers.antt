@@ -2,8 +2,8 @@ use Rattle.std.proofs.Common.{sym}
 use Rattle.fmtp.proofs.Decimal.{decimal_positive}
 use Rattle.fmtp.proofs.numbers.ratio.Goals as goal
 
-pub is-coprime-requires : goal.is-coprime-requires
-is-coprime-requires c = record {
-  a-positive = decimal_positive c.args.limit c.split-at-first.result.front.now _ (sym c.in-ok-numerator.ensures);
-  b-positive = decimal_positive c.args.limit c.in-ok-rest.rest.now _ (sym c.in-ok-denominator.ensures);
+pub is_coprime-requires : goal.is_coprime-requires
+is_coprime-requires c = record {
+  a_positive = decimal_positive c.args.limit c.split_at_first.result.front.now _ (sym c.in_ok-numerator.ensures);
+  b_positive = decimal_positive c.args.limit c.in_ok-rest.rest.now _ (sym c.in_ok-denominator.ensures);
 }

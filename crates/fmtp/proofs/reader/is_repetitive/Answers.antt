@@ -10,7 +10,7 @@ loop-parameter-preserved c =
     let all = c.all-all.result.now in
     let es = remaining c.args.entries in
     c.loop-parameter.invariant ∙ twice_more all es _ _ c.loop-parameter-test.true
-    ∙ ap (λ b. b || some_twice (drop (c.loop-parameter.parameter-index + 1) all) es) (sym c.if-is-twice.ensures)
+    ∙ ap (λ b. b || some_twice (drop (c.loop-parameter.parameter-index + 1) all) es) (sym c.if-is_twice.ensures)
 
 pub returns : goal.returns
 returns c = sym (c.loop-parameter.invariant ∙ at_drop_all (λ l. some_twice l (remaining c.args.entries)) _ _ c.loop-parameter-test.false)

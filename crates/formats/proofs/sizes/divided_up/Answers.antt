@@ -7,5 +7,5 @@ returns-else-b-eq0 c =
     let a = c.args.a in
     let b = c.args.b in
     let some : 0 < b = omega (arith, c.if-b-eq0.false) in
-    let value = c.div-ceil.ensures ∙ ceil_parts a b some in
+    let value = c.div_ceil.ensures ∙ ceil_parts a b some in
     record { value = value; bound = subst (λ n. n ≤ a) (sym value) (ceil_le a b some) }

@@ -19,7 +19,7 @@ returns g c =
     let l = kind.layout d in
     let os = c.args.group.now in
     let w = whole kind d (g.met.K.GroupKind.lawful c.args.kind.now) os c.requires.whole in
-    let under = All-from_get_or (λ x. x < 256) os 0 (λ i _. (c.type-inv.group i).fits) in
+    let under = All-from_get_or (λ x. x < 256) os 0 (λ i _. (c.type_inv.group i).fits) in
     let apart : c.loop-k.samples ≡ samples_of_octets l d os = fill_by_all (value_at l d os) c.loop-k.samples l.positions 0
     (omega (arith, c.requires.all)) (λ k h. c.loop-k.invariant k (omega (arith, c.requires.all))) in
     record { samples = apart; back = ap (octets_of_samples l d) apart ∙ (round_trip kind d w.laws).octets_back os w.size under }

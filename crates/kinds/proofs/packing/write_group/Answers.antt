@@ -7,13 +7,13 @@ use Rattle.kinds.specs.Packing.{ReadsBack}
 use Rattle.kinds.proofs.Tested.{whole, complete}
 use Rattle.kinds.proofs.packing.write_group.Goals as goal
 
-pub overflow-mul-i : goal.overflow-mul-i
-overflow-mul-i g c =
+pub overflow_mul-i : goal.overflow_mul-i
+overflow_mul-i g c =
     let kind = g.K.GroupKind.kind c.args.kind.now in
     omega (arith, (whole kind c.args.depth (g.met.K.GroupKind.lawful c.args.kind.now) c.args.group.now c.requires.whole).few)
 
-pub octet-at-requires : goal.octet-at-requires
-octet-at-requires g c =
+pub octet_at-requires : goal.octet_at-requires
+octet_at-requires g c =
     let kind = g.K.GroupKind.kind c.args.kind.now in
     let laws = g.met.K.GroupKind.lawful c.args.kind.now in
     let os = c.args.group.now in
@@ -25,7 +25,7 @@ pub loop-i-preserved : goal.loop-i-preserved
 loop-i-preserved g c =
     below_more _ _
     (λ k h. let ne : k ≢ c.loop-i.i = omega arith in rw get_or-set_other (c.loop-i.invariant k h))
-    (let lt : c.loop-i.i < length c.loop-i.group = omega arith in rw get_or-set_same c.octet-at.ensures)
+    (let lt : c.loop-i.i < length c.loop-i.group = omega arith in rw get_or-set_same c.octet_at.ensures)
 
 pub returns : goal.returns
 returns g c =

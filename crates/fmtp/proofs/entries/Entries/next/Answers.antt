@@ -6,6 +6,6 @@ use Rattle.fmtp.proofs.entries.Entries.next.Goals as goal
 
 pub returns : goal.returns
 returns c =
-    let parts = c.split-at-first.ensures in
-    ap (λ o. entries_in (pieces_behind (option_map (λ x. x.now) o))) c.in-ok-text.was
-    ∙ entries_step c.in-ok-text.text.now _ _ parts.front parts.rest _ _ c.without-blanks.ensures c.parse.ensures
+    let parts = c.split_at_first.ensures in
+    ap (λ o. entries_in (pieces_behind (option_map (λ x. x.now) o))) c.in_ok-text.was
+    ∙ entries_step c.in_ok-text.text.now _ _ parts.front parts.rest _ _ c.without_blanks.ensures c.parse.ensures

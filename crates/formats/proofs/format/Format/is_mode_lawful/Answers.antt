@@ -2,11 +2,11 @@ use Rattle.std.proofs.Common.{◌≤◌, sym, subst, arith}
 use Rattle.formats.proofs.Bounds.{octets_few}
 use Rattle.formats.proofs.format.Format.is_mode_lawful.Goals as goal
 
-pub octets-of-requires : goal.octets-of-requires
-octets-of-requires g c =
+pub octets_of-requires : goal.octets_of-requires
+octets_of-requires g c =
     let f = c.args.self.now in
     let few = octets_few (g.K.GroupKind.kind f.kind) (g.met.K.GroupKind.lawful f.kind) f.depth in
     record {
       many = omega (arith, c.row_groups.ensures.bound);
-      few = subst (λ n. n ≤ 48) (sym c.group-octets-octets.ensures) few;
+      few = subst (λ n. n ≤ 48) (sym c.group_octets-octets.ensures) few;
     }
