@@ -5,15 +5,15 @@ use Rattle.packets.specs.Headers.{offset_breaks}
 use Rattle.packets.proofs.Loops.{met, passed, ended}
 use Rattle.packets.proofs.headers.bad_offset.Goals as goal
 
-pub returns-then-offset-breaks : goal.returns-then-offset-breaks
-returns-then-offset-breaks g c =
+pub returns-then-offset_breaks : goal.returns-then-offset_breaks
+returns-then-offset_breaks g c =
     let rule : ℕ → Bool = offset_breaks (part_of g.K.GroupKind.kind c.args.part.now) c.args.packet.now in
-    met rule c.loop-i.i (headers c.args.packet.now) (omega arith) c.if-offset-breaks.ensures
+    met rule c.loop-i.i (headers c.args.packet.now) (omega arith) c.if-offset_breaks.ensures
 
 pub loop-i-preserved : goal.loop-i-preserved
 loop-i-preserved g c =
     let rule : ℕ → Bool = offset_breaks (part_of g.K.GroupKind.kind c.args.part.now) c.args.packet.now in
-    passed rule c.loop-i.i (headers c.args.packet.now) c.loop-i.invariant c.if-offset-breaks.ensures
+    passed rule c.loop-i.i (headers c.args.packet.now) c.loop-i.invariant c.if-offset_breaks.ensures
 
 pub returns : goal.returns
 returns g c =

@@ -6,20 +6,20 @@ use Rattle.packets.specs.Carried.{outcome}
 use Rattle.packets.proofs.Answers.{refused, accepted, sound, sound_answer, same_carried}
 use Rattle.packets.proofs.packet.Packet.read.Goals as goal
 
-pub returns-in-err-check : goal.returns-in-err-check
-returns-in-err-check g c =
+pub returns-in_err-check : goal.returns-in_err-check
+returns-in_err-check g c =
     let t = part_of g.K.GroupKind.kind c.args.part.now in
     let q = c.args.octets.now in
     let law = g.met.K.GroupKind.lawful c.args.part.now.format.kind in
-    let p = err_from_is_err_and c.from-residual.result c.from-residual.ensures.1 in
-    let answer = ap outcome p.1 ∙ ap (λ e. Err (number_of e)) p.2 ∙ refused t q _ c.in-err-check.ensures in
-    record { answer = answer; sound = sound_answer t q law c.from-residual.result answer }
+    let p = err_from_is_err_and c.from_residual.result c.from_residual.ensures.1 in
+    let answer = ap outcome p.1 ∙ ap (λ e. Err (number_of e)) p.2 ∙ refused t q _ c.in_err-check.ensures in
+    record { answer = answer; sound = sound_answer t q law c.from_residual.result answer }
 
 pub returns : goal.returns
 returns g c =
     let t = part_of g.K.GroupKind.kind c.args.part.now in
     let q = c.args.octets.now in
     let law = g.met.K.GroupKind.lawful c.args.part.now.format.kind in
-    let same = same_carried q _ _ _ _ _ _ c.group_octets.ensures c.group-columns.ensures c.group-rows.ensures in
-    let answer = ap Ok same ∙ accepted t q c.in-ok-check.ensures in
+    let same = same_carried q _ _ _ _ _ _ c.group_octets.ensures c.group_columns.ensures c.group_rows.ensures in
+    let answer = ap Ok same ∙ accepted t q c.in_ok-check.ensures in
     record { answer = answer; sound = λ _. sound t q law _ answer }

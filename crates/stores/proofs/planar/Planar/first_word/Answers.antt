@@ -13,14 +13,14 @@ bounded c =
     let start = c.args.self.now.starting p c.if-plane-ge3.false in
     let long = c.args.self.now.long in
     let k : length c.args.self.now.words.now < 2 ^ 64 = omega arith in
-    let both = and_parts (ltb c.args.row (v.height p)) (leb (c.args.column + c.args.count) (v.width p)) (sym c.if-has-columns.ensures) in
+    let both = and_parts (ltb c.args.row (v.height p)) (leb (c.args.column + c.args.count) (v.width p)) (sym c.if-has_columns.ensures) in
     omega (arith, run_before v.width v.height p 3 c.args.row c.args.column c.args.count c.if-plane-ge3.false (ltb-true c.args.row (v.height p) both.0) (leb-true (c.args.column + c.args.count) (v.width p) both.1))
 
-pub overflow-mul-result : goal.overflow-mul-result
-overflow-mul-result c = omega (arith, bounded c)
+pub overflow_mul-result : goal.overflow_mul-result
+overflow_mul-result c = omega (arith, bounded c)
 
-pub overflow-add-result : goal.overflow-add-result
-overflow-add-result c = omega (arith, bounded c)
+pub overflow_add-result : goal.overflow_add-result
+overflow_add-result c = omega (arith, bounded c)
 
-pub overflow-add-result-then-has-columns : goal.overflow-add-result-then-has-columns
-overflow-add-result-then-has-columns c = omega (arith, bounded c)
+pub overflow_add-result-then-has_columns : goal.overflow_add-result-then-has_columns
+overflow_add-result-then-has_columns c = omega (arith, bounded c)

@@ -5,12 +5,12 @@ use Rattle.stores.specs.Shapes.{shape_picture}
 use Rattle.stores.proofs.Frames.{Sound, over_sound, over_picture}
 use Rattle.stores.proofs.planar.Planar.new.Goals as goal
 
-pub invariant-of-result : goal.invariant-of-result
-invariant-of-result g c =
+pub invariant_of-result : goal.invariant_of-result
+invariant_of-result g c =
     let f = format_of g.K.GroupKind.kind c.args.format.now in
     let n = length c.args.words.now in
     let P : Shape → Type 0 = λ s. Sound s n in
-    let sound = subst P (sym c.shape-over-shape.ensures) (over_sound f (g.met.K.GroupKind.lawful c.args.format.now.kind) n) in
+    let sound = subst P (sym c.shape_over-shape.ensures) (over_sound f (g.met.K.GroupKind.lawful c.args.format.now.kind) n) in
     (sound.deep, (sound.narrow, (sound.few, (sound.no_width, (sound.no_height, (sound.starting, (sound.long, tt)))))))
 
 pub returns : goal.returns
@@ -19,9 +19,9 @@ returns g c =
     let ws = c.args.words.now in
     record {
       picture =
-          ap (λ s. shape_picture s ws) c.shape-over-shape.ensures
+          ap (λ s. shape_picture s ws) c.shape_over-shape.ensures
           ∙ over_picture f (g.met.K.GroupKind.lawful c.args.format.now.kind) (length ws) ws refl;
-      shape = c.shape-over-shape.ensures;
+      shape = c.shape_over-shape.ensures;
       words = refl;
       memory = refl;
     }

@@ -9,11 +9,11 @@ use Rattle.stores.proofs.Places.{put_word}
 use Rattle.stores.proofs.Puts.{word_found, word_inside, word_within, put_taken}
 use Rattle.stores.proofs.planar_store.PlanarStore.put.Goals as goal
 
-within : (c : goal.Else-is-large) → c.in-Some.at < length c.args.self.now.words.now
+within : (c : goal.Else-is_large) → c.in-Some.at < length c.args.self.now.words.now
 within c = word_within c.args.self.now c.args.plane c.args.row c.args.column c.in-Some.at c.in-Some.ensures
 
-pub offset-bounds-self-at : goal.offset-bounds-self-at
-offset-bounds-self-at c = omega (arith, within c)
+pub offset_bounds-self-at : goal.offset_bounds-self-at
+offset_bounds-self-at c = omega (arith, within c)
 
 pub bounds-self-at : goal.bounds-self-at
 bounds-self-at c = within c
@@ -28,7 +28,7 @@ returns c =
     let k = c.args.column in
     let x = c.args.value in
     let found = word_found v p r k c.in-Some.at c.in-Some.ensures in
-    let small : x < 2 ^ s.depth = leb-false (2 ^ s.depth) x (sym c.if-is-large.ensures) in
+    let small : x < 2 ^ s.depth = leb-false (2 ^ s.depth) x (sym c.if-is_large.ensures) in
     let taken = put_taken v p r k x found.1 small in
     let below = word_inside s c.args.self.now.few c.args.self.now.no_height p r k found.1 in
     let inner : word_at v p r k < length ws = omega (arith, below, c.args.self.now.long) in

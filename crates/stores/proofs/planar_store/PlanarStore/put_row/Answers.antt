@@ -7,13 +7,13 @@ use Rattle.stores.specs.Shapes.{blank, shape_picture, shape_words, words_behind}
 use Rattle.stores.proofs.Puts.{first_found, words_inside, words_within}
 use Rattle.stores.proofs.Columns.{row_taken, all_written, picture_written, behind_written}
 use Rattle.stores.proofs.planar_store.PlanarStore.put_row.Goals as goal
-use Rattle.stores.proofs.planar_store.PlanarStore.put_row.Goals.{Else-not-all-fit}
+use Rattle.stores.proofs.planar_store.PlanarStore.put_row.Goals.{Else-not-all_fit}
 
-within : (c : goal.Else-not-all-fit) → c.in-Some.at + length c.args.samples.now ≤ length c.args.self.now.words.now
+within : (c : goal.Else-not-all_fit) → c.in-Some.at + length c.args.samples.now ≤ length c.args.self.now.words.now
 within c = words_within c.args.self.now c.args.plane c.args.row c.args.column (length c.args.samples.now) c.in-Some.at c.in-Some.ensures
 
 inner : (c : goal.After-shared-slice-known-in-loop-i·1) → c.in-Some.at + c.loop-i.i < length c.args.self.now.words.now
-inner c = omega (arith, within (goal.at.overflow-add-self c).Else-not-all-fit, c.loop-i-test.true)
+inner c = omega (arith, within (goal.at.overflow_add-self c).Else-not-all_fit, c.loop-i-test.true)
 
 long : (ws : List ℕ) (at : ℕ) (xs : List ℕ) (i : ℕ) → at + i < length ws → i < length xs → length (paste ws at xs i) ≡ length ws
 long ws at xs i h k = length-paste ws at xs i (omega arith) (omega arith)
@@ -21,11 +21,11 @@ long ws at xs i h k = length-paste ws at xs i (omega arith) (omega arith)
 pub loop-i-init : goal.loop-i-init
 loop-i-init c = (refl, refl, paste_none c.args.self.now.words.now c.in-Some.at c.args.samples.now)
 
-pub overflow-add-self : goal.overflow-add-self
-overflow-add-self c = omega (arith, inner c)
+pub overflow_add-self : goal.overflow_add-self
+overflow_add-self c = omega (arith, inner c)
 
-pub offset-bounds-self-at : goal.offset-bounds-self-at
-offset-bounds-self-at c = omega (arith, inner c)
+pub offset_bounds-self-at : goal.offset_bounds-self-at
+offset_bounds-self-at c = omega (arith, inner c)
 
 pub bounds-self-at : goal.bounds-self-at
 bounds-self-at c =
@@ -42,7 +42,7 @@ loop-i-preserved c =
     let at = c.in-Some.at in
     let xs = c.args.samples.now in
     let i = c.loop-i.i in
-    let below = within (goal.at.loop-i-preserved c).Else-not-all-fit in (
+    let below = within (goal.at.loop-i-preserved c).Else-not-all_fit in (
       c.loop-i.invariant.0,
       c.loop-i.invariant.1,
       ap (λ l. set l (at + i) (get_or xs i 0)) c.loop-i.invariant.2 ∙ paste_more ws at xs i 0 (omega (arith, c.loop-i-test.true)) c.loop-i-test.true,
@@ -61,9 +61,9 @@ returns c =
     let xs = c.args.samples.now in
     let i = c.loop-i.i in
     let at = c.in-Some.at in
-    let d = (goal.at.returns c).Else-not-all-fit in
+    let d = (goal.at.returns c).Else-not-all_fit in
     let found = first_found v p r k (length xs) at c.in-Some.ensures in
-    let small = sym c.if-not-all-fit.ensures in
+    let small = sym c.if-not-all_fit.ensures in
     let all : i ≡ length xs = omega (arith, c.loop-i-test.false, c.loop-i.auto.i-end) in
     let lies = words_inside s old.few old.no_height p r k (length xs) found.1 in
     let fits : word_at v p r k + length xs ≤ length ws = omega (arith, lies, old.long) in

@@ -6,13 +6,13 @@ use Rattle.theory.specs.Pictures.{columns_inside}
 use Rattle.stores.proofs.Columns.{columns_told, shown}
 use Rattle.stores.proofs.store.Store.show_row.Given as given
 use Rattle.stores.proofs.store.Store.show_row.Goals as goal
-use Rattle.stores.proofs.store.Store.show_row.Goals.{Else-not-has-columns}
+use Rattle.stores.proofs.store.Store.show_row.Goals.{Else-not-has_columns}
 
-fits : (g : given.Over) (c : goal.Else-not-has-columns g)
+fits : (g : given.Over) (c : goal.Else-not-has_columns g)
     → columns_inside (g.Self.Store.picture c.args.self.now) c.args.plane c.args.row c.args.column (length c.args.samples.now) ≡ true
 fits g c =
     columns_told (g.Self.Store.picture c.args.self.now) c.args.plane c.args.row c.args.column (length c.args.samples.now)
-    c.height.result c.width.result c.height.ensures c.width.ensures c.if-not-has-columns.ensures
+    c.height.result c.width.result c.height.ensures c.width.ensures c.if-not-has_columns.ensures
 
 pub loop-i-init : goal.loop-i-init
 loop-i-init g c k h = absurd (omega arith)
@@ -28,13 +28,13 @@ loop-i-preserved g c =
     let here : i < length c.loop-i.samples = omega (arith, c.loop-i-test.true, c.loop-i.auto.samples) in
     below_more _ _
     (λ k h. let ne : k ≢ i = omega arith in rw get_or-set_other (c.loop-i.invariant k h))
-    (rw get_or-set_same (shown v c.args.plane c.args.row c.args.column n i c.in-ok-samples.field-0 (fits g (goal.at.loop-i-preserved g c).Else-not-has-columns) c.loop-i-test.true c.in-ok-samples.ensures))
+    (rw get_or-set_same (shown v c.args.plane c.args.row c.args.column n i c.in_ok-samples.field-0 (fits g (goal.at.loop-i-preserved g c).Else-not-has_columns) c.loop-i-test.true c.in_ok-samples.ensures))
 
 pub returns : goal.returns
 returns g c =
     let v = g.Self.Store.picture c.args.self.now in
     let xs = c.args.samples.now in
-    let all = fits g (goal.at.returns g c).Else-not-has-columns in
+    let all = fits g (goal.at.returns g c).Else-not-has_columns in
     let f : ℕ → ℕ = λ i. v.sample c.args.plane c.args.row (c.args.column + i) in
     record {
       answer = sym (ap (λ b. verdict (first_row ((not b, 1) ∷ []))) all);
