@@ -1,11 +1,11 @@
 -- Reading a decimal number digit by digit, and Euclid's algorithm. Assumes nothing.
-use Rattle.std.proofs.Common.{◌≡◌, ℕ, zero, suc, ◌+◌, ◌-◌, ◌*◌, ◌%◌, ◌<◌, ◌≤◌, min, Bool, true, false, cond, not, ◌&&◌, ◌||◌, eqb, ltb, leb, List, [], ◌∷◌, ◌++◌, map, length, get_or, take, drop, Some, None, Option, sym, refl, ap, ◌∙◌, subst, ⊎_elim, mod-eq_of_lt, arith, take-append-drop}
+use Rattle.std.proofs.Common.{◌≡◌, ℕ, zero, suc, ◌+◌, ◌-◌, ◌*◌, ◌%◌, ◌<◌, ◌≤◌, min, Bool, true, false, cond, not, ◌&&◌, ◌||◌, eqb, ltb, leb, List, [], ◌∷◌, ◌++◌, map, length, get_or, take, drop, Some, None, sym, refl, ap, ◌∙◌, subst, ⊎_elim, mod-eq_of_lt, arith, take-append-drop}
 use native.Mathlib.Nat.{mod-mod_of_dvd, dvd_of_mod-eq-zero, le_of_dvd, mod_self, zero-mod, le-min}
 use mathlib.Core.List.{map-append}
 use Rattle.std.specs.Int.Digits.{number_from_digits}
 use Rattle.std.proofs.lemmas.Int.Digits.{number_push, number_after_append, number_after_ge}
 use Rattle.std.proofs.lemmas.List.{map_more, take_all, at_drop_all}
-use Rattle.std.proofs.lemmas.Bool.{lt-leb, le-leb, leb-true, not-true, lt-ltb, eqb-true, eqb-false, eq-eqb, ne_eqb, and_parts, and_left, and_right, or_from, le-ltb, ltb-false, cases_eq}
+use Rattle.std.proofs.lemmas.Bool.{lt-leb, le-leb, leb-true, not-true, eqb-true, eqb-false, eq-eqb, ne_eqb, and_parts, and_left, and_right, or_from, le-ltb, ltb-false, cases_eq}
 use Rattle.fmtp.specs.Lines.{empty, every}
 use Rattle.fmtp.specs.Decimals.{digit, written, decimal_of, divides_both, each_from_two, coprime}
 use Rattle.fmtp.proofs.Searching.{every_passed, every_failed}

@@ -1,8 +1,7 @@
 -- The order of the entries, and the unknown ones, do not matter. Assumes nothing.
-use Rattle.std.proofs.Common.{◌≡◌, ℕ, ◌+◌, ◌<◌, ◌≤◌, Bool, true, false, cond, not, ◌&&◌, ◌||◌, eqb, ltb, List, [], ◌∷◌, is_some, Some, None, Ok, Err, sum_by, Option, sym, refl, ap, ◌∙◌, subst, inl, inr, ⊎_elim, zero-add, arith}
+use Rattle.std.proofs.Common.{◌≡◌, ℕ, ◌+◌, ◌<◌, ◌≤◌, Bool, true, false, cond, not, ◌&&◌, ◌||◌, eqb, ltb, List, [], ◌∷◌, is_some, Some, None, Err, sum_by, Option, sym, refl, ap, ◌∙◌, ⊎_elim, zero-add, arith}
 use Rattle.std.specs.List.{AllByRecursion as All}
 use Rattle.std.specs.List.Sorted.{IsPermutation}
-use Rattle.std.specs.Str.{bytes_eq}
 use Rattle.std.proofs.lemmas.List.Sorted.{sum_by-IsPermutation}
 use Rattle.std.proofs.ByRecursion.{all_shuffled}
 use Rattle.std.proofs.lemmas.Slice.Eq.{bytes_eq-Decides}
@@ -25,7 +24,6 @@ use Rattle.fmtp.specs.declared.parameters.Parameter.TheVariants.{
   MaxUdp,
   PixelAspect,
 }
-use Rattle.fmtp.specs.Decimals.{then}
 use Rattle.fmtp.specs.Lines.{EntryText, entries, well_formed}
 use Rattle.fmtp.specs.Parameters.{parameter_text, parameters, parameter_of, permitted, permitted_as}
 use Rattle.fmtp.specs.Reading.{has_name, times, find, some_twice, entry_in, repeated, all_permitted, record_of, consistent, reading_entries, reading}

@@ -1,5 +1,5 @@
 -- What the parts of a line that the code holds stand for. Assumes nothing.
-use Rattle.std.specs.Prelude.{List, [], Some, None}
+use Rattle.std.specs.Prelude.{List, Some, None}
 use Rattle.std.specs.Option.{option_map}
 use Rattle.fmtp.specs.Lines.{EntryText, entries_in, pieces_behind}
 use Rattle.fmtp.specs.declared.entries.Entry.{Entry}

@@ -1,5 +1,5 @@
 -- When two lines say the same. Assumes nothing.
-use Rattle.std.specs.Prelude.{◌≡◌, ℕ, Bool, true, false, cond, List, [], ◌∷◌, is_some}
+use Rattle.std.specs.Prelude.{◌≡◌, ℕ, true, false, cond, List, [], ◌∷◌, is_some}
 use Rattle.std.specs.List.Sorted.{IsPermutation}
 use Rattle.fmtp.specs.Lines.{EntryText, entries, well_formed}
 use Rattle.fmtp.specs.Parameters.{parameter_of}

@@ -1,5 +1,5 @@
 -- The formats and parts of `theory` that those of the code stand for. Assumes nothing.
-use Rattle.std.specs.Prelude.{ℕ, Bool, cond, Ok, Err, Result}
+use Rattle.std.specs.Prelude.{ℕ, cond, Ok, Err, Result}
 use Rattle.theory.specs.Layouts.{Kind}
 use Rattle.theory.specs.Formats as formats
 use Rattle.formats.specs.declared.format.Format.{Format}

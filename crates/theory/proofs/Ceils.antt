@@ -1,6 +1,6 @@
 -- Division rounded up, by quotient and remainder.
-use Rattle.std.proofs.Common.{◌≡◌, ℕ, zero, suc, ◌+◌, ◌-◌, ◌*◌, ◌/◌, ◌%◌, ◌<◌, ◌≤◌, min, sym, refl, ap, ◌∙◌, ⊎_elim, mod-lt, add-mul, one-mul, div-add-mod', mul-one, arith}
-use native.Mathlib.Nat.{min-le_left, min-le_right, min-eq_left, zero-min, min-zero}
+use Rattle.std.proofs.Common.{◌≡◌, ℕ, ◌+◌, ◌-◌, ◌*◌, ◌/◌, ◌%◌, ◌<◌, ◌≤◌, min, sym, ap, ◌∙◌, ⊎_elim, mod-lt, add-mul, one-mul, div-add-mod', mul-one, arith}
+use native.Mathlib.Nat.{min-le_right, min-eq_left}
 use lib.Arith.{digits_div}
 use Rattle.std.proofs.lemmas.Nat.{mul-le}
 use Rattle.std.proofs.lemmas.Bool.{cases_lt}

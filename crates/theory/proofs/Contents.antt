@@ -5,7 +5,7 @@ use Rattle.std.specs.Int.Digits.{number_from_digits}
 use Rattle.std.proofs.lemmas.List.{drop-drop, drop_at, take_at, length-append}
 use Rattle.std.proofs.lemmas.Bool.{and_parts, and_from, leb-true, ltb-true, le-leb, lt-ltb}
 use Rattle.theory.specs.Octets.{first_from}
-use Rattle.theory.specs.Formats.{Part, layout_of, row_groups, rows}
+use Rattle.theory.specs.Formats.{Part, layout_of, row_groups}
 use Rattle.theory.specs.Pictures.{Picture}
 use Rattle.theory.specs.Groups.{group_samples, group_octets}
 use Rattle.theory.specs.Packets.{headers, lengths, unit_row, first_group, segment_groups, payload_start}

@@ -2,7 +2,7 @@
 use Rattle.std.proofs.Common.{◌≡◌, ℕ, zero, suc, ◌+◌, ◌*◌, ◌/◌, ◌%◌, ◌<◌, ◌≤◌, Bool, true, false, cond, eqb, ltb, List, [], ◌∷◌, ◌++◌, length, get_or, drop, refl, ap, ◌∙◌, not-suc-le-zero, arith}
 use Rattle.std.proofs.lemmas.Bool.{cond-true, cond-false, eq-eqb, ne_eqb}
 use Rattle.theory.specs.Octets.{octet, number16, number32, octets16}
-use Rattle.theory.specs.Formats.{Part, layout_of, row_groups, rows}
+use Rattle.theory.specs.Formats.{Part, layout_of, row_groups}
 use Rattle.theory.specs.Packets.{version, padded, marker, payload_start, payload_end, padding, header, headers, continues, srd_length, srd_field, srd_row, srd_offset}
 use Rattle.theory.specs.Cutting.{Segment, srd_headers, rtp_header}
 

@@ -1,4 +1,4 @@
-use Rattle.std.proofs.Common.{◌≡◌, ℕ, sym, ap, ◌∙◌, arith}
+use Rattle.std.proofs.Common.{sym, ap, ◌∙◌, arith}
 use Rattle.fmtp.specs.Decimals.{divides_both}
 use Rattle.fmtp.proofs.Decimal.{both_step, euclid}
 use Rattle.fmtp.proofs.numbers.is_coprime.Goals as goal

@@ -1,4 +1,4 @@
-use Rattle.std.proofs.Common.{◌+◌, take, Some, ap, ◌∙◌, arith}
+use Rattle.std.proofs.Common.{◌+◌, take, Some, ap, ◌∙◌}
 use native.Mathlib.Nat.{sub-zero}
 use Rattle.std.proofs.lemmas.List.{take_rest}
 use Rattle.fmtp.proofs.Searching.{unsplit_found, unsplit_more, unsplit_all}
