@@ -5,7 +5,7 @@ use Rattle.stores.proofs.Places.{run_before}
 use Rattle.stores.proofs.planar.Planar.first_word.Goals as goal
 
 -- the word lies in the memory, or just behind it
-bounded : (c : goal.After-result·1)
+bounded : (c : goal.After-result-1)
     → get_or c.args.self.now.shape.starts c.args.plane 0 + c.args.row * get_or c.args.self.now.shape.widths c.args.plane 0 + c.args.column < 2 ^ 64
 bounded c =
     let v = blank c.args.self.now.shape in

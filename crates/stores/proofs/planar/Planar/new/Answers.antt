@@ -11,7 +11,15 @@ invariant_of-result g c =
     let n = length c.args.words.now in
     let P : Shape → Type 0 = λ s. Sound s n in
     let sound = subst P (sym c.shape_over-shape.ensures) (over_sound f (g.met.K.GroupKind.lawful c.args.format.now.kind) n) in
-    (sound.deep, (sound.narrow, (sound.few, (sound.no_width, (sound.no_height, (sound.starting, (sound.long, tt)))))))
+    record {
+      deep = sound.deep;
+      narrow = sound.narrow;
+      few = sound.few;
+      no_width = sound.no_width;
+      no_height = sound.no_height;
+      starting = sound.starting;
+      long = sound.long;
+    }
 
 pub returns : goal.returns
 returns g c =

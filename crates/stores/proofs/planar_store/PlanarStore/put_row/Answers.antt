@@ -12,7 +12,7 @@ use Rattle.stores.proofs.planar_store.PlanarStore.put_row.Goals.{Else-not-all_fi
 within : (c : goal.Else-not-all_fit) → c.in-Some.at + length c.args.samples.now ≤ length c.args.self.now.words.now
 within c = words_within c.args.self.now c.args.plane c.args.row c.args.column (length c.args.samples.now) c.in-Some.at c.in-Some.ensures
 
-inner : (c : goal.After-shared-slice-known-in-loop-i·1) → c.in-Some.at + c.loop-i.i < length c.args.self.now.words.now
+inner : (c : goal.After-shared_slice_known-in-loop-i-1) → c.in-Some.at + c.loop-i.i < length c.args.self.now.words.now
 inner c = omega (arith, within (goal.at.overflow_add-self c).Else-not-all_fit, c.loop-i-test.true)
 
 long : (ws : List ℕ) (at : ℕ) (xs : List ℕ) (i : ℕ) → at + i < length ws → i < length xs → length (paste ws at xs i) ≡ length ws
