@@ -71,10 +71,17 @@ octet_more m i n x count more h ex ec em =
     ∙ sym (count_more f (8 * i) n) in
     (all, omega (arith, count_le f (8 * i + n)))
 
+-- the low bits of an octet, as masked; they are no more than the mask has
+masked_low : (x y b : ℕ) → b ≤ 8 → y ≡ x → bit_and y ((1 * 2 ^ b) % 65536 - 1) ≡ x % 2 ^ b
+masked_low x y b h e = ap₂ (λ z n. bit_and z (n - 1)) e (one_shl b 16 (omega arith)) ∙ and_mask x b
+
+pub low_few : (x y b : ℕ) → b ≤ 8 → y ≡ x → ones (bit_and y ((1 * 2 ^ b) % 65536 - 1)) ≤ b
+low_few x y b h e =
+    let f : ℕ → Bool = λ j. eqb ((x / 2 ^ j) % 2) 1 in
+    omega (arith, ap ones (masked_low x y b h e), ones_low x b, count_le f b)
+
 -- the low bits that are clear, as masked and counted
 pub clear_low : (x y b : ℕ) → b ≤ 8 → y ≡ x → b - ones (bit_and y ((1 * 2 ^ b) % 65536 - 1)) ≡ count_below b (λ j. not (eqb ((x / 2 ^ j) % 2) 1))
 clear_low x y b h e =
     let f : ℕ → Bool = λ j. eqb ((x / 2 ^ j) % 2) 1 in
-    let low : bit_and y ((1 * 2 ^ b) % 65536 - 1) ≡ x % 2 ^ b =
-    ap₂ (λ z n. bit_and z (n - 1)) e (one_shl b 16 (omega arith)) ∙ and_mask x b in
-    omega (arith, ap ones low, ones_low x b, count_not f b)
+    omega (arith, ap ones (masked_low x y b h e), ones_low x b, count_not f b)

@@ -3,7 +3,7 @@
 ghost use Rattle.std.specs.Prelude.{◌≡◌, ◌*◌, ◌/◌, ◌<◌, ◌++◌, length};
 ghost use Rattle.formats.specs.Meaning.{part_of};
 ghost use Rattle.theory.specs.Octets.{octets16};
-ghost use Rattle.theory.specs.Formats.{layout_of, row_groups, groups};
+ghost use Rattle.theory.specs.Formats.{layout_of, row_groups as unit_row_groups, groups};
 ghost use Rattle.theory.specs.Cutting.{cut as cut_of, rtp_header, srd_header, srd_headers};
 ghost use Rattle.sender.specs.Cuts.{Holds, segment};
 ghost use Rattle.sender.specs.Tested.{Tested};
@@ -76,7 +76,7 @@ fn segment_header<K: GroupKind>(
     more: bool,
 ) -> [u8; SEGMENT_HEADER]
     requires tested { Tested (part_of K.GroupKind.kind part.now) }
-    requires rows { row_groups ≡ row_groups (part_of K.GroupKind.kind part.now).format }
+    requires rows { row_groups ≡ unit_row_groups (part_of K.GroupKind.kind part.now).format }
     requires inside { first < groups (part_of K.GroupKind.kind part.now) }
     requires short { count * (layout_of (part_of K.GroupKind.kind part.now).format).octets < 65536 }
     ensures { result ≡ srd_header (part_of K.GroupKind.kind part.now) (segment first count) more }

@@ -10,9 +10,9 @@ returns g c =
     let l = kind.layout c.args.depth in
     let laws = g.met.K.GroupKind.lawful c.args.kind.now in
     let few = (laws.at_depth c.args.depth c.requires).planes_range.1 in
-    let all = c.group-rows-rows.ensures in
+    let all = c.group_rows-rows.ensures in
     copied_three (group_height kind l) c.quotient.result c.quotient-2.result c.quotient-3.result
-    (c.quotient.ensures.value ∙ ap₂ (λ x y. x / y) all c.row-step.ensures)
-    (c.quotient-2.ensures.value ∙ ap₂ (λ x y. x / y) all c.row-step-2.ensures)
-    (c.quotient-3.ensures.value ∙ ap₂ (λ x y. x / y) all c.row-step-3.ensures)
+    (c.quotient.ensures.value ∙ ap₂ (λ x y. x / y) all c.row_step.ensures)
+    (c.quotient-2.ensures.value ∙ ap₂ (λ x y. x / y) all c.row_step-2.ensures)
+    (c.quotient-3.ensures.value ∙ ap₂ (λ x y. x / y) all c.row_step-3.ensures)
     (λ p h. ap (λ s. kind.rows / s) ((laws.elsewhere c.args.depth).no_plane p (omega arith)).1 ∙ div-zero kind.rows)

@@ -13,6 +13,6 @@ returns g c =
     let all = c.columns-columns.ensures in
     copied_three (group_width l) c.quotient.result c.quotient-2.result c.quotient-3.result
     (c.quotient.ensures.value ∙ ap₂ (λ x y. x / y) all c.column_step.ensures)
-    (c.quotient-2.ensures.value ∙ ap₂ (λ x y. x / y) all c.column-step-2.ensures)
-    (c.quotient-3.ensures.value ∙ ap₂ (λ x y. x / y) all c.column-step-3.ensures)
+    (c.quotient-2.ensures.value ∙ ap₂ (λ x y. x / y) all c.column_step-2.ensures)
+    (c.quotient-3.ensures.value ∙ ap₂ (λ x y. x / y) all c.column_step-3.ensures)
     (λ p h. ap (λ s. l.columns / s) ((laws.elsewhere c.args.depth).no_plane p (omega arith)).0 ∙ div-zero l.columns)

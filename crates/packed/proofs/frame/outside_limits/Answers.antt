@@ -11,4 +11,4 @@ refuses (Err x) true e = absurd (let z : ◌≡◌ {A = ℕ} 0 1 = cc in omega a
 refuses (Err x) false e = refl
 
 pub returns : goal.returns
-returns g c = c.is-err.ensures.value ∙ refuses c.check.result _ c.check.ensures
+returns g c = c.is_err.ensures.value ∙ refuses c.check.result _ c.check.ensures

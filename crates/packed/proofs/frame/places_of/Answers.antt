@@ -7,9 +7,9 @@ loop-k-preserved g c =
     let l = (g.K.GroupKind.kind c.args.kind.now).layout c.args.depth in
     let i = c.loop-k.k in
     let so_far = c.loop-k.invariant in (
-      copied_more c.loop-k.planes 24 i c.position-plane.result l.plane (omega arith) so_far.0 c.position-plane.ensures,
-      copied_more c.loop-k.rows 24 i c.position-row.result l.row (omega arith) so_far.1 c.position-row.ensures,
-      copied_more c.loop-k.columns 24 i c.position-column.result l.column (omega arith) so_far.2 c.position-column.ensures,
+      copied_more c.loop-k.planes 24 i c.position_plane.result l.plane (omega arith) so_far.0 c.position_plane.ensures,
+      copied_more c.loop-k.rows 24 i c.position_row.result l.row (omega arith) so_far.1 c.position_row.ensures,
+      copied_more c.loop-k.columns 24 i c.position_column.result l.column (omega arith) so_far.2 c.position_column.ensures,
     )
 
 pub returns : goal.returns

@@ -7,5 +7,5 @@ use Rattle.receiver.proofs.group.put_group.Given as goal
 abbrev pub invariant-loop-k : goal.invariant-loop-k
 invariant-loop-k g l =
     let t = part_of g.K.GroupKind.kind l.part in
-    GroupSoFar t (g.S.Store.picture l.initial.store) l.group (group_at t l.unit-row l.at) l.k (g.S.Store.picture l.store)
+    GroupSoFar t (g.S.Store.picture l.initial.store) l.group (group_at t l.unit_row l.at) l.k (g.S.Store.picture l.store)
     × (g.S.Store.rest l.store ≡ g.S.Store.rest l.initial.store)

@@ -10,42 +10,42 @@ use Rattle.receiver.proofs.Checks.{handed_on, kept_on}
 use Rattle.receiver.proofs.Offers.{some_octets, store_fits, map_long, reader_refuses, reader_takes}
 use Rattle.receiver.proofs.Segments.{PacketSoFar, packet_begins, few_headers, handed_out, none_handed_out, segment_fits, packet_takes, packet_ends}
 use Rattle.receiver.proofs.packet.put_packet.Goals as goal
-use Rattle.receiver.proofs.packet.put_packet.Goals.{in-Some, in-default}
+use Rattle.receiver.proofs.packet.put_packet.Goals.{in-Some, in_default}
 
-pub returns-in-err-packet : goal.returns-in-err-packet
-returns-in-err-packet g c =
+pub returns-in_err-packet : goal.returns-in_err-packet
+returns-in_err-packet g c =
     let t = part_of g.K.GroupKind.kind c.args.part.now in
     let v = g.S.Store.picture c.args.store.now in
-    let r = reader_refuses t v c.args.map.now c.requires c.args.octets.now _ (λ i _. (c.type-inv.map i).fits)
-    c.in-err-packet.ensures.answer in
+    let r = reader_refuses t v c.args.map.now c.requires c.args.octets.now _ (λ i _. (c.type_inv.map i).fits)
+    c.in_err-packet.ensures.answer in
     record {
-      answer = handed_on _ _ c.from-residual.result c.from-residual.ensures.1 r.0;
+      answer = handed_on _ _ c.from_residual.result c.from_residual.ensures.1 r.0;
       picture = r.1;
       map = r.2;
       rest = refl;
-      kept = kept_on _ c.from-residual.result c.from-residual.ensures.1 (refl, refl);
+      kept = kept_on _ c.from_residual.result c.from_residual.ensures.1 (refl, refl);
     }
 
 pub loop-i-init : goal.loop-i-init
 loop-i-init g c = (
   refl,
   packet_begins (part_of g.K.GroupKind.kind c.args.part.now) (g.S.Store.picture c.args.store.now) c.args.map.now c.args.octets.now
-      (λ i. (c.type-inv.map i).fits),
+      (λ i. (c.type_inv.map i).fits),
 )
 
 -- a turn's number is that of a header
 turn : (q : List ℕ) (i n h : ℕ) → i < n → n ≡ h → h ≡ headers q → i < headers q
 turn q i n h l e₁ e₂ = omega arith
 
-pub put-segment-count-requires : goal.put-segment-count-requires
-put-segment-count-requires g c =
+pub put_segment-count-requires : goal.put_segment-count-requires
+put_segment-count-requires g c =
     let t = part_of g.K.GroupKind.kind c.args.part.now in
     let v = g.S.Store.picture c.args.store.now in
     let m = c.args.map.now in
     let q = c.args.octets.now in
     let i = c.loop-i.i in
-    let read = c.in-ok-packet.ensures in
-    let same = (reader_takes t v m c.requires q (carries c.in-ok-packet.packet) read.answer).1 in
+    let read = c.in_ok-packet.ensures in
+    let same = (reader_takes t v m c.requires q (carries c.in_ok-packet.packet) read.answer).1 in
     let here : i < headers q = turn q i _ _ c.loop-i-test.true c.segments-i-end.ensures (ap (λ w. w.count) same) in
     let x = placed c.in-Some.segment in
     let fits = segment_fits t q (read.sound refl) i here x (handed_out t q _ i x same here c.in-Some.ensures) in
@@ -59,15 +59,15 @@ put-segment-count-requires g c =
       mapped = subst (λ y. groups t ≤ 8 * y) (sym c.loop-i.auto.map) (map_long t v m c.requires);
     }
 
-pub overflow-add-count : goal.overflow-add-count
-overflow-add-count g c =
+pub overflow_add-count : goal.overflow_add-count
+overflow_add-count g c =
     omega (
       arith,
       c.loop-i.invariant.1.3,
       c.loop-i-test.true,
       c.segments-i-end.ensures,
-      few_headers c.in-ok-packet.packet.octets.now,
-      c.put-segment-count.ensures.few,
+      few_headers c.in_ok-packet.packet.octets.now,
+      c.put_segment-count.ensures.few,
     )
 
 pub loop-i-preserved : goal.loop-i-preserved
@@ -77,23 +77,23 @@ loop-i-preserved g c =
     let m = c.args.map.now in
     let q = c.args.octets.now in
     let i = c.loop-i.i in
-    let read = c.in-ok-packet.ensures in
-    let same = (reader_takes t v m c.requires q (carries c.in-ok-packet.packet) read.answer).1 in
+    let read = c.in_ok-packet.ensures in
+    let same = (reader_takes t v m c.requires q (carries c.in_ok-packet.packet) read.answer).1 in
     let here : i < headers q = turn q i _ _ c.loop-i-test.true c.segments-i-end.ensures (ap (λ w. w.count) same) in
     let picture = g.S.Store.picture in
     let after = c.match-segment in
     elim c.match-segment.branch [
       | in-Some w ↦
           let x = placed w.in-Some.segment in
-          let put = w.put-segment-count in (
+          let put = w.put_segment-count in (
             ap g.S.Store.rest w.store-is ∙ put.ensures.rest ∙ c.loop-i.invariant.0,
-            subst (λ n. PacketSoFar t v m q (i + 1) (picture after.store) after.map n) (sym w.count_is)
+            subst (λ n. PacketSoFar t v m q (i + 1) (picture after.store) after.map n) (sym w.count-is)
                 (packet_takes t q (read.sound refl) i here x (handed_out t q _ i x same here w.in-Some.ensures)
                 v m (map_long t v m c.requires) (picture c.loop-i.store) c.loop-i.map c.loop-i.count c.loop-i.invariant.1
                 (picture after.store) after.map put.result
                 (ap picture w.store-is ∙ put.ensures.picture, w.map-is ∙ put.ensures.map, put.ensures.count) put.ensures.few),
           )
-      | in-default w ↦ absurd (none_handed_out t q _ i same here w.in-default.ensures)
+      | in_default w ↦ absurd (none_handed_out t q _ i same here w.in_default.ensures)
     ]
 
 pub returns : goal.returns
@@ -102,7 +102,7 @@ returns g c =
     let v = g.S.Store.picture c.args.store.now in
     let m = c.args.map.now in
     let q = c.args.octets.now in
-    let read = reader_takes t v m c.requires q (carries c.in-ok-packet.packet) c.in-ok-packet.ensures.answer in
+    let read = reader_takes t v m c.requires q (carries c.in_ok-packet.packet) c.in_ok-packet.ensures.answer in
     let e : c.loop-i.i ≡ headers q =
     omega (arith, c.loop-i-test.false, c.loop-i.auto.i-end, c.segments-i-end.ensures, ap (λ w. w.count) read.1) in
     let ends = packet_ends t v m q (ap is_none read.0) (g.S.Store.picture c.loop-i.store) c.loop-i.map c.loop-i.count

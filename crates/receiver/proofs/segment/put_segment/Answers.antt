@@ -7,7 +7,7 @@ use Rattle.theory.specs.Pictures.{fits_part}
 use Rattle.receiver.specs.Filling.{group_at, run, run_sets, run_value}
 use Rattle.receiver.proofs.Groups.{SegmentSoFar, room, segment_begins, segment_puts, segment_passes}
 use Rattle.receiver.proofs.segment.put_segment.Goals as goal
-use Rattle.receiver.proofs.segment.put_segment.Goals.{then-not-is-set, else-not-is-set}
+use Rattle.receiver.proofs.segment.put_segment.Goals.{then-not-is_set, else-not-is_set}
 
 pub loop-i-init : goal.loop-i-init
 loop-i-init g c =
@@ -15,56 +15,56 @@ loop-i-init g c =
     let s = c.args.segment in (
       refl,
       segment_begins t (g.S.Store.picture c.args.store.now) c.args.map.now s.octets.now
-          (group_at t s.unit_row s.first_group) (λ i. (c.type-inv.map i).fits),
+          (group_at t s.unit_row s.first_group) (λ i. (c.type_inv.map i).fits),
     )
 
 -- the octets of a turn's group lie in the segment
 inside : (i n o o' size : ℕ) → i < n → o ≡ o' → n * o' ≤ size → i * o + o ≤ size
 inside i n o o' size h e k = subst (λ x. i * x + x ≤ size) (sym e) (room i n o' size h k)
 
-pub overflow-mul-group : goal.overflow-mul-group
-overflow-mul-group g c =
+pub overflow_mul-group : goal.overflow_mul-group
+overflow_mul-group g c =
     omega (
       arith,
-      inside c.loop-i.i c.args.segment.groups c.group-octets-octets.result _ (length c.args.segment.octets.now)
-          c.loop-i-test.true c.group-octets-octets.ensures c.requires.whole,
+      inside c.loop-i.i c.args.segment.groups c.group_octets-octets.result _ (length c.args.segment.octets.now)
+          c.loop-i-test.true c.group_octets-octets.ensures c.requires.whole,
     )
 
-pub overflow-mul-group-then-not-is-set : goal.overflow-mul-group-then-not-is-set
-overflow-mul-group-then-not-is-set g c = overflow-mul-group g c
+pub overflow_mul-group-then-not-is_set : goal.overflow_mul-group-then-not-is_set
+overflow_mul-group-then-not-is_set g c = overflow_mul-group g c
 
-pub overflow-add-group : goal.overflow-add-group
-overflow-add-group g c =
+pub overflow_add-group : goal.overflow_add-group
+overflow_add-group g c =
     omega (
       arith,
-      inside c.loop-i.i c.args.segment.groups c.group-octets-octets.result _ (length c.args.segment.octets.now)
-          c.loop-i-test.true c.group-octets-octets.ensures c.requires.whole,
+      inside c.loop-i.i c.args.segment.groups c.group_octets-octets.result _ (length c.args.segment.octets.now)
+          c.loop-i-test.true c.group_octets-octets.ensures c.requires.whole,
     )
 
-pub slice-bounds-group-end : goal.slice-bounds-group-end
-slice-bounds-group-end g c =
-    inside c.loop-i.i c.args.segment.groups c.group-octets-octets.result _ (length c.args.segment.octets.now)
-    c.loop-i-test.true c.group-octets-octets.ensures c.requires.whole
+pub slice_bounds-group-end : goal.slice_bounds-group-end
+slice_bounds-group-end g c =
+    inside c.loop-i.i c.args.segment.groups c.group_octets-octets.result _ (length c.args.segment.octets.now)
+    c.loop-i-test.true c.group_octets-octets.ensures c.requires.whole
 
-pub put-group-requires : goal.put-group-requires
-put-group-requires g c =
+pub put_group-requires : goal.put_group-requires
+put_group-requires g c =
     let t = part_of g.K.GroupKind.kind c.args.part.now in
-    let o = c.group-octets-octets.result in
+    let o = c.group_octets-octets.result in
     let i = c.loop-i.i in
     let os = c.args.segment.octets.now in
     let r : i * o + o ≤ length os =
-    inside i c.args.segment.groups o _ (length os) c.loop-i-test.true c.group-octets-octets.ensures c.requires.whole in
+    inside i c.args.segment.groups o _ (length os) c.loop-i-test.true c.group_octets-octets.ensures c.requires.whole in
     record {
       lawful = c.requires.lawful;
       fits = ap (λ v. fits_part v t) c.loop-i.invariant.1.0 ∙ c.requires.fits;
-      whole = simp (length-take, length-drop) (omega (arith, c.group-octets-octets.ensures));
+      whole = simp (length-take, length-drop) (omega (arith, c.group_octets-octets.ensures));
       row = c.requires.row;
       at = omega (arith, c.requires.inside, c.loop-i-test.true);
       small = omega (arith, c.requires.inside, c.loop-i-test.true, c.row_groups.ensures.value, c.row_groups.ensures.bound);
     }
 
-pub overflow-add-count : goal.overflow-add-count
-overflow-add-count g c = omega (arith, c.loop-i.invariant.1.3)
+pub overflow_add-count : goal.overflow_add-count
+overflow_add-count g c = omega (arith, c.loop-i.invariant.1.3)
 
 -- the group's number, as the code has it
 number_is : (u f i r r' : ℕ) → r' ≡ r → u * r' + f + i ≡ u * r + f + i
@@ -88,20 +88,20 @@ loop-i-preserved g c =
     let number : n ≡ s + i = number_is u f i r c.row_groups.result c.row_groups.ensures.value in
     let below : s + i < groups t = omega (arith, c.requires.below, c.loop-i-test.true) in
     let picture = g.S.Store.picture in
-    let after = c.if-not-is-set in
-    elim c.if-not-is-set.branch [
-      | then-not-is-set w ↦ (
-        ap g.S.Store.rest w.store-is ∙ w.put-group.ensures.rest ∙ c.loop-i.invariant.0,
+    let after = c.if-not-is_set in
+    elim c.if-not-is_set.branch [
+      | then-not-is_set w ↦ (
+        ap g.S.Store.rest w.store-is ∙ w.put_group.ensures.rest ∙ c.loop-i.invariant.0,
         segment_puts t v m os s i (picture c.loop-i.store) c.loop-i.map c.loop-i.count n c.loop-i.invariant.1 number below c.requires.mapped
-            (u * r + (f + i)) c.group-octets-octets.result (picture after.store) after.map after.count
-            (number_in_row u f i r) c.group-octets-octets.ensures (sym c.is-set.ensures ∙ w.if-not-is-set.true)
-            (ap picture w.store-is ∙ w.put-group.ensures.picture) (w.map-is ∙ w.set.ensures) w.count_is,
+            (u * r + (f + i)) c.group_octets-octets.result (picture after.store) after.map after.count
+            (number_in_row u f i r) c.group_octets-octets.ensures (sym c.is_set.ensures ∙ w.if-not-is_set.true)
+            (ap picture w.store-is ∙ w.put_group.ensures.picture) (w.map-is ∙ w.set.ensures) w.count-is,
       )
-      | else-not-is-set w ↦ (
+      | else-not-is_set w ↦ (
         ap g.S.Store.rest w.store-is ∙ c.loop-i.invariant.0,
         segment_passes t v m os s i (picture c.loop-i.store) c.loop-i.map c.loop-i.count n c.loop-i.invariant.1 number below c.requires.mapped
             (picture after.store) after.map after.count
-            (sym c.is-set.ensures ∙ w.if-not-is-set.false) (ap picture w.store-is) w.map-is w.count_is,
+            (sym c.is_set.ensures ∙ w.if-not-is_set.false) (ap picture w.store-is) w.map-is w.count-is,
       )
     ]
 

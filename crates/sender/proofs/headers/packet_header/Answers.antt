@@ -6,12 +6,12 @@ use Rattle.sender.proofs.Heads.{header_is}
 use Rattle.sender.proofs.headers.packet_header.Goals as goal
 use Rattle.sender.proofs.headers.packet_header.Goals.{then-last, else-last}
 
-pub overflow-add-result : goal.overflow-add-result
-overflow-add-result g c =
+pub overflow_add-result : goal.overflow_add-result
+overflow_add-result g c =
     let w = limits c.requires in
     let low : c.if-last.marker ≤ 128 = elim c.if-last.branch [
-      | then-last x ↦ omega (arith, x.marker_is)
-      | else-last x ↦ omega (arith, x.marker_is)
+      | then-last x ↦ omega (arith, x.marker-is)
+      | else-last x ↦ omega (arith, x.marker-is)
     ] in
     omega (arith, w.type_range)
 
@@ -19,9 +19,9 @@ pub returns : goal.returns
 returns g c =
     let last = c.args.last in
     let marker : c.if-last.marker ≡ cond last 128 0 = elim c.if-last.branch [
-      | then-last x ↦ x.marker_is ∙ sym (cond-true last 128 0 x.if-last.true)
-      | else-last x ↦ x.marker_is ∙ sym (cond-false last 128 0 x.if-last.false)
+      | then-last x ↦ x.marker-is ∙ sym (cond-true last 128 0 x.if-last.true)
+      | else-last x ↦ x.marker-is ∙ sym (cond-false last 128 0 x.if-last.false)
     ] in
     header_is (part_of g.K.GroupKind.kind c.args.part.now) c.args.sequence c.if-last.marker last
-    c.to-be-bytes-number.result c.to-be-bytes-time.result c.to-be-bytes-source.result
-    c.to-be-bytes-number.ensures c.to-be-bytes-time.ensures c.to-be-bytes-source.ensures marker
+    c.to_be_bytes-number.result c.to_be_bytes-time.result c.to_be_bytes-source.result
+    c.to_be_bytes-number.ensures c.to_be_bytes-time.ensures c.to_be_bytes-source.ensures marker

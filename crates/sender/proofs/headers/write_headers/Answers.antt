@@ -12,14 +12,14 @@ loop-i-init g c =
     let is = c.requires.cut.segments in
     record { written = ap (srd_headers t) is; fit = subst (Fit t) (sym is) (fit w _ _ (cut_short w c.args.group)) }
 
-pub segment-header-header-requires : goal.segment-header-header-requires
-segment-header-header-requires g c =
+pub segment_header-header-requires : goal.segment_header-header-requires
+segment_header-header-requires g c =
     let le : c.args.cut.now.segments ≤ length c.args.cut.now.counts = omega (arith, c.requires.cut.few, c.requires.cut.places) in
     let f = next_fits c.loop-i.invariant c.loop-i-test.true le in
-    record { tested = c.requires.tested; rows = c.row-groups-row-groups.ensures.value; inside = f.0; short = f.1 }
+    record { tested = c.requires.tested; rows = c.row_groups-row_groups.ensures.value; inside = f.0; short = f.1 }
 
-pub overflow-add-first : goal.overflow-add-first
-overflow-add-first g c =
+pub overflow_add-first : goal.overflow_add-first
+overflow_add-first g c =
     let le : c.args.cut.now.segments ≤ length c.args.cut.now.counts = omega (arith, c.requires.cut.few, c.requires.cut.places) in
     let f = next_fits c.loop-i.invariant c.loop-i-test.true le in
     omega (arith, f.0, f.2, few_groups (limits c.requires.tested))
@@ -30,8 +30,8 @@ loop-i-preserved g c =
     let cut = c.args.cut.now in
     let le : cut.segments ≤ length cut.counts = omega (arith, c.requires.cut.few, c.requires.cut.places) in
     headed_more t c.args.group c.loop-i.first c.loop-i.i cut.segments _ cut.counts c.loop-i.out
-    c.copy-from-slice.new.self c.loop-i-test.true le (omega (arith, c.loop-i.auto.out, c.requires.room))
-    (c.copy-from-slice.ensures.after ∙ c.segment-header-header.ensures) c.loop-i.invariant
+    c.copy_from_slice.new.self c.loop-i-test.true le (omega (arith, c.loop-i.auto.out, c.requires.room))
+    (c.copy_from_slice.ensures.after ∙ c.segment_header-header.ensures) c.loop-i.invariant
 
 pub returns : goal.returns
 returns g c =

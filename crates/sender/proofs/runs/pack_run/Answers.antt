@@ -8,8 +8,8 @@ use Rattle.sender.specs.Rows.{word_of, words_of}
 use Rattle.sender.proofs.Pieces.{packed_whole, pieces_more, length_packed, octets_pos, groups_end}
 use Rattle.sender.proofs.runs.pack_run.Goals as goal
 
-pub slice-bounds-pack-group-end : goal.slice-bounds-pack-group-end
-slice-bounds-pack-group-end g c =
+pub slice_bounds-pack_group-end : goal.slice_bounds-pack_group-end
+slice_bounds-pack_group-end g c =
     let o = c.octets-octets.result in
     let next : c.loop-i.i + 1 ≤ c.args.groups = omega arith in
     let end : c.loop-i.i * o + o ≤ length c.loop-i.out =
@@ -23,7 +23,7 @@ loop-i-preserved g c =
     let y = m.layout d in
     let i = c.loop-i.i in
     let o = c.octets-octets.result in
-    let ys = c.pack-group.new.out in
+    let ys = c.pack_group.new.out in
     let words = c.args.words.now in
     let F : ℕ → List ℕ = λ j. octets_of_samples y d (words_of y words j) in
     let same : o ≡ y.octets = cc in
@@ -31,7 +31,7 @@ loop-i-preserved g c =
     let end : i * o + o ≤ length c.loop-i.out =
     omega (arith, groups_end i 1 c.args.groups o more same (c.loop-i.auto.out ∙ c.requires.room), one-mul o) in
     let whole : ys ≡ F i =
-    c.pack-group.ensures
+    c.pack_group.ensures
     ∙ packed_whole y d (words_of y words i) _ (octets_pos m d c.requires.laws) (simp (length-take, length-drop) (omega (arith, end, same)))
     (length-map-range_with_len (λ k. get_or words (word_of y i k) 0) 0 y.positions) (c.requires.small i c.loop-i-test.true) in
     let next : 0 + i ≡ i = omega arith in

@@ -8,20 +8,20 @@ pub of-requires : goal.of-requires
 of-requires g c =
     let f = format_of g.K.GroupKind.kind c.args.format.now in
     let room = length c.args.octets.now in
-    allowed f room (sym (good c.check.result (packed_refusal f room) c.check.ensures) ∙ sym c.if-is-ok.ensures.value)
+    allowed f room (sym (good c.check.result (packed_refusal f room) c.check.ensures) ∙ sym c.if-is_ok.ensures.value)
 
-pub returns-then-is-ok : goal.returns-then-is-ok
-returns-then-is-ok g c =
+pub returns-then-is_ok : goal.returns-then-is_ok
+returns-then-is_ok g c =
     let f = format_of g.K.GroupKind.kind c.args.format.now in
     let room = length c.args.octets.now in
-    let passes = sym (good c.check.result (packed_refusal f room) c.check.ensures) ∙ sym c.if-is-ok.ensures.value in
+    let passes = sym (good c.check.result (packed_refusal f room) c.check.ensures) ∙ sym c.if-is_ok.ensures.value in
     let all = made f room c.of.result (g.met.K.GroupKind.lawful c.args.format.now.kind) passes c.of.ensures in
-    record { sound = all.sound; octets = λ i _. (c.type-inv.octets i).fits; picture = all.picture; beside = all.beside; first = all.first }
+    record { sound = all.sound; octets = λ i _. (c.type_inv.octets i).fits; picture = all.picture; beside = all.beside; first = all.first }
 
-pub returns-else-is-ok : goal.returns-else-is-ok
-returns-else-is-ok g c =
+pub returns-else-is_ok : goal.returns-else-is_ok
+returns-else-is_ok g c =
     let f = format_of g.K.GroupKind.kind c.args.format.now in
     let room = length c.args.octets.now in
-    let fails = sym (good c.check.result (packed_refusal f room) c.check.ensures) ∙ sym c.if-is-ok.ensures.value in
+    let fails = sym (good c.check.result (packed_refusal f room) c.check.ensures) ∙ sym c.if-is_ok.ensures.value in
     let all = subst (Made f room) (sym c.empty.ensures) (refused f room fails) in
-    record { sound = all.sound; octets = λ i _. (c.type-inv.octets i).fits; picture = all.picture; beside = all.beside; first = all.first }
+    record { sound = all.sound; octets = λ i _. (c.type_inv.octets i).fits; picture = all.picture; beside = all.beside; first = all.first }

@@ -1,10 +1,12 @@
 use Rattle.std.proofs.Common.{refl}
 use Rattle.packed.proofs.packed.Packed.new.Goals as goal
 
-pub invariant-of-result : goal.invariant-of-result
-invariant-of-result g c =
+pub invariant_of-result : goal.invariant_of-result
+invariant_of-result g c =
     let s = c.new-grid.ensures.sound in
-    (s.deep, (s.narrow, (s.few, (s.none, (s.covered, (s.within, (s.owned, (s.long, tt))))))))
+    record {
+      deep = s.deep; narrow = s.narrow; few = s.few; none = s.none; covered = s.covered; within = s.within; owned = s.owned; long = s.long
+    }
 
 pub returns : goal.returns
 returns g c =

@@ -12,7 +12,7 @@ returns c =
     let s = c.args.self.now in
     let g = s.grid in
     let m = s.octets.now in
-    let l = c.set-window.new.self.octets.now in
+    let l = c.set_window.new.self.octets.now in
     let p = c.args.plane in
     let r = c.args.row in
     let d = c.args.column in
@@ -26,16 +26,16 @@ returns c =
     let hx : x < 2 ^ g.depth = leb-false (2 ^ g.depth) x small in
     let taken : put_refusal v p r d x ≡ None = not_refused (inside v p r d) (leb (2 ^ g.depth) x) within small in
     let bits : (k : ℕ) → bit_at l k ≡ bit_after m (first_bit g p r d) g.depth x k = λ k.
-    ap (λ z. bit_at z k) c.set-window.ensures.octets ∙ c.window-with-number.ensures.bits k
+    ap (λ z. bit_at z k) c.set_window.ensures.octets ∙ c.window_with-number.ensures.bits k
     ∙ ap (λ b. bit_after m b g.depth x k) c.bit-bit.ensures in
-    let same = c.set-window.ensures.grid in
+    let same = c.set_window.ensures.grid in
     let beside = ap (λ z. grid_beside z l) same ∙ put_beside g s.owned m l p r d x hr hd bits in
     record {
       answer = sym (ap verdict taken);
       picture = ap (λ z. grid_picture z l) same ∙ put_picture g s.owned m l p r d x hr hd bits hx
           ∙ sym (ap (λ o. cond (is_none o) (put v p r d x) v) taken);
-      rest = λ i. (c.set-window.ensures.memory i, same i, beside i);
+      rest = λ i. (c.set_window.ensures.memory i, same i, beside i);
       kept = tt;
       bits = λ k. bits k ∙ sym (ap (λ o. cond (is_none o) (bit_after m (first_bit g p r d) g.depth x k) (bit_at m k)) taken);
-      memory = c.set-window.ensures.memory;
+      memory = c.set_window.ensures.memory;
     }

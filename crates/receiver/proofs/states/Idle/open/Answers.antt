@@ -15,17 +15,17 @@ pub reset-requires : goal.reset-requires
 reset-requires g c =
     let t = part_of g.K.GroupKind.kind (record { format = c.args.format; timestamp = c.args.timestamp; field = c.args.field }) in
     let m = c.args.map.now in
-    subst (λ n. n ≤ length m) (sym c.map_octets.ensures) (opens t m c.in-default.ensures.answer).2
+    subst (λ n. n ≤ length m) (sym c.map_octets.ensures) (opens t m c.in_default.ensures.answer).2
 
 pub returns : goal.returns
 returns g c =
     let t = part_of g.K.GroupKind.kind (record { format = c.args.format; timestamp = c.args.timestamp; field = c.args.field }) in
     let m = c.args.map.now in
-    let opened = opens t m c.in-default.ensures.answer in
+    let opened = opens t m c.in_default.ensures.answer in
     let map = c.reset.ensures ∙ ap (λ n. replicate n 0 ++ drop n m) c.map_octets.ensures ∙ opened.1 in
     record {
       answer = opened.0;
       map = map;
       run = λ _. begins t m c.reset.new.map (g.met.K.GroupKind.lawful c.args.format.kind) c.ranges.timestamp.fits (omega (arith, c.well_formed))
-          c.check-opening.ensures.octets c.in-default.ensures.answer map;
+          c.check_opening.ensures.octets c.in_default.ensures.answer map;
     }

@@ -7,24 +7,24 @@ use Rattle.receiver.proofs.Checks.{handed_on, passes, bits_there}
 use Rattle.receiver.proofs.Surveys.{uncounted, counted, counts_unnamed}
 use Rattle.receiver.proofs.states.Open.missing.Goals as goal
 
-pub returns-in-err-check-map : goal.returns-in-err-check-map
-returns-in-err-check-map g c =
+pub returns-in_err-check_map : goal.returns-in_err-check_map
+returns-in_err-check_map g c =
     let t = part_open g.K.GroupKind.kind c.args.self.now in
     let m = c.args.map.now in
-    let answer = handed_on _ _ c.from-residual.result c.from-residual.ensures.1
-    (uncounted (count_refusal t m) _ (missing t m) c.in-err-check-map.ensures.answer) in
-    record { answer = answer; law = counts_unnamed t m (numbered c.from-residual.result) answer }
+    let answer = handed_on _ _ c.from_residual.result c.from_residual.ensures.1
+    (uncounted (count_refusal t m) _ (missing t m) c.in_err-check_map.ensures.answer) in
+    record { answer = answer; law = counts_unnamed t m (numbered c.from_residual.result) answer }
 
-pub clear-bits-requires : goal.clear-bits-requires
-clear-bits-requires g c =
+pub clear_bits-requires : goal.clear_bits-requires
+clear_bits-requires g c =
     let t = part_open g.K.GroupKind.kind c.args.self.now in
     let m = c.args.map.now in
-    subst (λ n. n ≤ 8 * length m) (sym c.groups.ensures.value) (bits_there t m (passes (count_refusal t m) c.in-ok-check-map.ensures.answer))
+    subst (λ n. n ≤ 8 * length m) (sym c.groups.ensures.value) (bits_there t m (passes (count_refusal t m) c.in_ok-check_map.ensures.answer))
 
 pub returns : goal.returns
 returns g c =
     let t = part_open g.K.GroupKind.kind c.args.self.now in
     let m = c.args.map.now in
-    let answer = counted (count_refusal t m) c.clear-bits.result (missing t m) c.in-ok-check-map.ensures.answer
-    (c.clear-bits.ensures ∙ ap (λ n. count_below n (λ k. not (bit m k))) c.groups.ensures.value) in
+    let answer = counted (count_refusal t m) c.clear_bits.result (missing t m) c.in_ok-check_map.ensures.answer
+    (c.clear_bits.ensures ∙ ap (λ n. count_below n (λ k. not (bit m k))) c.groups.ensures.value) in
     record { answer = answer; law = counts_unnamed t m _ answer }

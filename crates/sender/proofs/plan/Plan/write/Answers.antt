@@ -5,8 +5,8 @@ use Rattle.sender.proofs.Packets.{near_or_none, headers_length, planned_length, 
 use Rattle.sender.proofs.Sizes.{limits}
 use Rattle.sender.proofs.plan.Plan.write.Goals as goal
 
-pub write-groups-requires : goal.write-groups-requires
-write-groups-requires g c = record {
+pub write_groups-requires : goal.write_groups-requires
+write_groups-requires g c = record {
   tested = c.requires.tested;
   fits = c.requires.fits;
   small = λ i h. elim (near_or_none (limits c.requires.tested) c.args.group) [
@@ -25,13 +25,13 @@ returns g c =
     let planned = c.requires.planned in
     let seq = c.args.sequence in
     let old = c.args.buffer.now in
-    let xs = c.copy-from-slice.new.self in
-    let ys = c.write-headers.new.out in
-    let zs = c.write-groups.new.out in
-    let head = c.copy-from-slice.ensures.after ∙ c.packet-header-header.ensures in
+    let xs = c.copy_from_slice.new.self in
+    let ys = c.write_headers.new.out in
+    let zs = c.write_groups.new.out in
+    let head = c.copy_from_slice.ensures.after ∙ c.packet_header-header.ensures in
     let long : length xs ≡ 14 = ap length head in
-    let heads : length ys ≡ 6 * p.cut.segments = ap length c.write-headers.ensures ∙ headers_length w v seq planned in
+    let heads : length ys ≡ 6 * p.cut.segments = ap length c.write_headers.ensures ∙ headers_length w v seq planned in
     three_parts xs ys zs old 14 p.start p.octets long (omega (arith, planned.start)) (omega (arith, planned.start))
     (omega (arith, planned.octets))
-    ∙ ap (λ q. q ++ drop p.octets old) (packet_parts w v seq planned xs ys zs head c.write-headers.ensures c.write-groups.ensures)
+    ∙ ap (λ q. q ++ drop p.octets old) (packet_parts w v seq planned xs ys zs head c.write_headers.ensures c.write_groups.ensures)
     ∙ ap (λ n. packet t v seq c.args.group ++ drop n old) (sym (planned_length w v seq planned))
