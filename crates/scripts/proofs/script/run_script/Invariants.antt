@@ -1,5 +1,5 @@
 use Rattle.std.proofs.Common.{◌-◌, length}
-use Rattle.console.proofs.script.run_script.Given as goal
+use Rattle.scripts.proofs.script.run_script.Given as goal
 
 abbrev pub decreases-loop-i : goal.decreases-loop-i
 decreases-loop-i l = length l.lines - l.i

@@ -1,5 +1,5 @@
 use Rattle.std.proofs.Common.{◌-◌, ◌≤◌, length}
-use Rattle.console.proofs.stream.with_format.Given as goal
+use Rattle.scripts.proofs.stream.with_format.Given as goal
 
 abbrev pub invariant-loop-i : goal.invariant-loop-i
 invariant-loop-i g l = l.start ≤ l.i
