@@ -1,5 +1,5 @@
 -- The segments of a packet, one after another: what a turn of the loop leaves, and the packet whole.
-use Rattle.std.proofs.Common.{◌≡◌, ℕ, zero, suc, ◌+◌, ◌-◌, ◌*◌, ◌/◌, ◌<◌, ◌≤◌, Bool, true, false, cond, not, ◌&&◌, ◌||◌, ltb, leb, List, length, get_or, take, drop, Some, None, sym, refl, ap, ◌∙◌, subst, ap₂, inl, inr, div-le_self, add-one, arith, lit≤, length-drop, length-take}
+use Rattle.std.proofs.Common.{◌≡◌, ℕ, zero, suc, ◌+◌, ◌-◌, ◌*◌, ◌<◌, ◌≤◌, Bool, true, false, cond, not, ◌&&◌, ◌||◌, ltb, leb, List, length, get_or, take, drop, Some, None, sym, refl, ap, ◌∙◌, subst, ap₂, inl, inr, div-le_self, add-one, arith, lit≤, length-drop, length-take}
 use Rattle.std.proofs.lemmas.List.{drop-take, take-take, drop-drop}
 use Rattle.std.proofs.lemmas.Bool.{both_ways, cases_order, cond-true, cond-false, and_parts, leb-true, ltb-true, lt-ltb, not-true}
 use Rattle.packets.specs.Reading.{Placed, Carried, carried, segment_at}
@@ -8,7 +8,7 @@ use Rattle.theory.specs.Octets.{bit, any_below, first_from, count_below, marked}
 use Rattle.theory.specs.Formats.{Part, layout_of, row_groups, groups}
 use Rattle.theory.specs.Pictures.{Picture}
 use Rattle.theory.specs.Groups.{filled, value_at, group_of}
-use Rattle.theory.specs.Packets.{continues, headers, lengths, srd_length, srd_row, data_start, unit_row, segment_groups}
+use Rattle.theory.specs.Packets.{continues, headers, lengths, srd_length, srd_row, data_start, segment_groups}
 use Rattle.theory.specs.Naming.{SoundNaming}
 use Rattle.theory.specs.Taking.{segment_start, segment_names, names, octets_of, taken, sets, picture_after, map_after, set_count}
 use Rattle.theory.proofs.Filling.{filled_none, filled_same, filled_twice}

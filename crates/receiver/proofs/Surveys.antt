@@ -1,10 +1,10 @@
 -- How a run begins, and what counts answer of one.
-use Rattle.std.proofs.Common.{◌≡◌, ℕ, ◌^◌, ◌<◌, true, cond, not, ◌||◌, ltb, List, [], ◌∷◌, length, Some, None, Ok, Err, Option, sym, refl, ap, ◌∙◌, subst, arith}
+use Rattle.std.proofs.Common.{◌≡◌, ℕ, ◌^◌, ◌<◌, cond, not, ◌||◌, ltb, List, [], ◌∷◌, length, None, Ok, Err, Option, sym, refl, ap, ◌∙◌, subst}
 use Rattle.theory.specs.Answers.{Answer, first_row, is_none, verdict, answer}
 use Rattle.theory.specs.Octets.{AllOctets}
 use Rattle.theory.specs.Layouts.{LawfulKind}
 use Rattle.theory.specs.Formats.{Part, map_octets, lawful_format}
-use Rattle.theory.specs.Pictures.{Picture, fits_part}
+use Rattle.theory.specs.Pictures.{Picture}
 use Rattle.theory.specs.Taking.{open_refusal, opened_map, map_after_opening, missing, count_answer, survey_answer}
 use Rattle.theory.specs.Runs.{Start, packets_taken, unnamed_groups}
 use Rattle.theory.proofs.RunLaw.{run_law}

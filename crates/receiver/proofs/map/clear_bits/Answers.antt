@@ -1,4 +1,4 @@
-use Rattle.std.proofs.Common.{◌≡◌, ℕ, ◌+◌, ◌*◌, ◌/◌, ◌%◌, ◌<◌, ◌≤◌, not, length, get_or, take, refl, ap, ◌∙◌, arith, length-take, get_or-take}
+use Rattle.std.proofs.Common.{◌≡◌, ◌+◌, ◌*◌, ◌/◌, ◌%◌, ◌<◌, ◌≤◌, not, get_or, take, refl, ap, ◌∙◌, arith, length-take, get_or-take}
 use Rattle.theory.specs.Octets.{bit, count_below}
 use Rattle.receiver.proofs.Counting.{octet_more}
 use Rattle.receiver.proofs.map.clear_bits.Goals as goal

@@ -1,4 +1,4 @@
-use Rattle.std.proofs.Common.{◌≡◌, ◌*◌, ◌/◌, not}
+use Rattle.std.proofs.Common.{◌≡◌, ◌*◌, not}
 use Rattle.theory.specs.Octets.{bit, count_below}
 use Rattle.receiver.proofs.map.clear_bits.Given as goal
 

@@ -1,10 +1,8 @@
 use Rattle.std.proofs.Common.{◌≡◌, ℕ, ◌+◌, ◌*◌, ◌<◌, ◌≤◌, length, sym, refl, ap, ◌∙◌, subst, arith, length-drop, length-take}
 use Rattle.formats.specs.Meaning.{part_of}
-use Rattle.theory.specs.Octets.{count_below, marked}
-use Rattle.theory.specs.Formats.{layout_of, row_groups, groups}
-use Rattle.theory.specs.Groups.{filled}
+use Rattle.theory.specs.Formats.{row_groups, groups}
 use Rattle.theory.specs.Pictures.{fits_part}
-use Rattle.receiver.specs.Filling.{group_at, run, run_sets, run_value}
+use Rattle.receiver.specs.Filling.{group_at}
 use Rattle.receiver.proofs.Groups.{SegmentSoFar, room, segment_begins, segment_puts, segment_passes}
 use Rattle.receiver.proofs.segment.put_segment.Goals as goal
 use Rattle.receiver.proofs.segment.put_segment.Goals.{then-not-is_set, else-not-is_set}

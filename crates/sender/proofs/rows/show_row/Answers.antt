@@ -1,4 +1,4 @@
-use Rattle.std.proofs.Common.{◌≡◌, ◌-◌, ◌≤◌, ◌++◌, length, drop, ap, ◌∙◌, arith}
+use Rattle.std.proofs.Common.{◌≡◌, ◌-◌, ◌++◌, length, drop, ap, ◌∙◌, arith}
 use Rattle.std.proofs.lemmas.List.{take_at, length-take, length-take-le, length-append, length-drop}
 use Rattle.sender.proofs.Shown.{put_to_end, row_shown, row_filled}
 use Rattle.sender.proofs.rows.show_row.Goals as goal

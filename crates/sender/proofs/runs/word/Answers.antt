@@ -1,4 +1,4 @@
-use Rattle.std.proofs.Common.{◌≡◌, ◌+◌, ◌*◌, ◌/◌, ◌<◌, sym, subst, arith}
+use Rattle.std.proofs.Common.{◌≡◌, ◌+◌, ◌*◌, ◌/◌, ◌<◌, sym, subst}
 use Rattle.sender.specs.Rows.{word_of}
 use Rattle.sender.proofs.Pieces.{word_inside}
 use Rattle.sender.proofs.runs.word.Goals as goal

@@ -5,7 +5,14 @@ pub invariant_of-result : goal.invariant_of-result
 invariant_of-result g c =
     let s = c.new-grid.ensures.sound in
     record {
-      deep = s.deep; narrow = s.narrow; few = s.few; none = s.none; covered = s.covered; within = s.within; owned = s.owned; long = s.long
+      deep = s.deep;
+      narrow = s.narrow;
+      few = s.few;
+      none = s.none;
+      covered = s.covered;
+      within = s.within;
+      owned = s.owned;
+      long = s.long;
     }
 
 pub returns : goal.returns
