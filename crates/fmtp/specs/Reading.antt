@@ -75,7 +75,7 @@ record_of at =
     then (then (value_of name.Depth at) (spelled depth_text depths)) (λ depth.
     then (then (value_of name.Width at) size_of) (λ width.
     then (then (value_of name.Height at) size_of) (λ height.
-    then (then (value_of name.FrameRate at) rate_of) (λ frame-rate.
+    then (then (value_of name.FrameRate at) rate_of) (λ frame_rate.
     then (then (value_of name.Colorimetry at) (spelled colorimetry_text colorimetries)) (λ colorimetry.
     then (then (value_of name.Packing at) (spelled packing_text packings)) (λ packing.
     then (then (value_of name.Edition at) (spelled edition_text editions)) (λ edition.
@@ -84,7 +84,7 @@ record_of at =
       depth = depth;
       width = width;
       height = height;
-      frame_rate = frame-rate;
+      frame_rate = frame_rate;
       colorimetry = colorimetry;
       packing = packing;
       edition = edition;

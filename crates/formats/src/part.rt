@@ -2,7 +2,7 @@
 
 ghost use Rattle.std.specs.Prelude.{◌≡◌, ◌*◌, ◌≤◌};
 ghost use Rattle.refusals.specs.Numbers.{numbered};
-ghost use Rattle.theory.specs.Formats.{rows as rows_of_lem, unit_rows, groups as groups_of, map_octets, plane_width, plane_height, lawful_field};
+ghost use Rattle.theory.specs.Formats.{rows as rows_of, unit_rows, groups as groups_of, map_octets, plane_width, plane_height, lawful_field};
 ghost use Rattle.formats.specs.Meaning.{part_of, part_check};
 
 use crate::format::Format;
@@ -40,7 +40,7 @@ impl<K: GroupKind> Part<K> {
 
     /// Rows of the part: all of the frame, or every second one.
     pub fn rows(&self) -> usize
-        ensures value { result ≡ rows_of_lem (part_of K.GroupKind.kind self.now) }
+        ensures value { result ≡ rows_of (part_of K.GroupKind.kind self.now) }
         ensures bound { result ≤ 65535 }
     {
         let height = self.format.height as usize;
