@@ -1,6 +1,6 @@
 //! The arrival map: a bit for each group, set where the group has arrived.
 
-ghost use Rattle.std.specs.Prelude.{◌≡◌, ℕ, ◌*◌, ◌/◌, ◌%◌, ◌^◌, ◌<◌, ◌≤◌, not, ◌++◌, length, drop, set as ListSet_of_Decides, replicate, ◌==◌, nat_eq};
+ghost use Rattle.std.specs.Prelude.{◌≡◌, ℕ, ◌*◌, ◌/◌, ◌%◌, ◌^◌, ◌<◌, ◌≤◌, not, ◌++◌, length, drop, slice_set, replicate, ◌==◌, nat_eq};
 ghost use Rattle.theory.specs.Octets.{bit, marked, count_below};
 
 /// Whether bit `n` is set.
@@ -14,7 +14,7 @@ pub(crate) fn is_set(map: &[u8], n: usize) -> bool
 // The octet of bit `n`, with that bit.
 fn with_bit(map: &[u8], n: usize) -> u8
     requires { n < 8 * length map.now }
-    ensures { ListSet_of_Decides map.now (n / 8) result ≡ marked map.now (λ k. nat_eq k n) }
+    ensures { slice_set map.now (n / 8) result ≡ marked map.now (λ k. nat_eq k n) }
 {
     map[n / 8] | 1 << (n % 8)
 }
