@@ -1,5 +1,8 @@
 #!/usr/bin/env python3
-"""What `scripts` must write for a script: a model of the rules in docs/, written apart from the crates and sharing nothing with them.
+"""What `scripts` must write for a script.
+
+Packets, pictures, counts and refusals come from a model of the rules in docs/, which shares no code with the crates. The words, the layout
+of the lines, and which command needs which are the program's own, and are repeated here.
 
 usage: python3 tools/expected.py <crates/scripts/stdin >crates/scripts/stdout
 
