@@ -1,5 +1,7 @@
 //! The commands of a script, one a line: words that blanks part.
 
+use formats::{Format, Part};
+
 /// How a store keeps its frame.
 #[derive(Clone, Copy)]
 pub enum Layout {
@@ -15,20 +17,42 @@ pub struct Place {
     pub column: usize,
 }
 
+/// Which part of a stream is meant.
+#[derive(Clone, Copy)]
+pub struct PartName {
+    pub timestamp: u32,
+    pub field: u8,
+}
+
+impl PartName {
+    /// That part of a format's stream.
+    pub fn of<K: Copy>(self, format: &Format<K>) -> Part<K> {
+        Part {
+            format: *format,
+            timestamp: self.timestamp,
+            field: self.field,
+        }
+    }
+}
+
+/// A stream as it is given: its payload type, its SSRC and its format line.
+#[derive(Clone, Copy)]
+pub struct Stream<'a> {
+    pub payload_type: u8,
+    pub ssrc: u32,
+    pub line: &'a str,
+}
+
 #[derive(Clone, Copy)]
 pub enum Command<'a> {
-    /// An empty line, or a remark.
-    Nothing,
-    /// A line that is no command, and how it should read.
-    Unknown(&'static str),
     /// Both moves, from beginning to end.
     Demo,
     /// How long a frame takes, sent and taken.
     Time,
-    /// A stream: its payload type, its SSRC and its format line.
-    Format(u8, u32, &'a str),
-    /// A packet in hex, read for the part with this timestamp and this field.
-    Read(u32, u8, &'a str),
+    /// Begins a stream.
+    Format(Stream<'a>),
+    /// Reads a packet in hex for a part.
+    Read(PartName, &'a str),
     /// A new store for the frame.
     Store(Layout),
     /// Puts a ramp into the store.
@@ -37,10 +61,10 @@ pub enum Command<'a> {
     Show(Place),
     /// Puts a sample.
     Put(Place, u16),
-    /// Sends the part with this timestamp and this field, from this sequence number on.
-    Send(u32, u8, u32),
-    /// Opens the part with this timestamp and this field, to receive it.
-    Open(u32, u8),
+    /// Sends a part, from this sequence number on.
+    Send(PartName, u32),
+    /// Opens a part, to receive it.
+    Open(PartName),
     /// Offers a packet in hex.
     Packet(&'a str),
     /// Counts the missing groups.
@@ -50,86 +74,48 @@ pub enum Command<'a> {
 }
 
 impl<'a> Command<'a> {
-    /// The command of a line.
-    pub fn parse(line: &'a str) -> Command<'a> {
+    /// The command of a line, and none of an empty line or a remark; or how a line should read that is no command.
+    pub fn parse(line: &'a str) -> Result<Option<Command<'a>>, &'static str> {
         let (name, words) = first_word(line);
-        match name {
-            "" | "#" => Command::Nothing,
+        let command = match name {
+            "" | "#" => return Ok(None),
             "demo" => Command::Demo,
             "time" => Command::Time,
-            "format" => or_usage(format_of(words), "format PAYLOAD-TYPE SSRC FORMAT-LINE"),
-            "read" => or_usage(read_of(words), "read TIMESTAMP FIELD HEX"),
-            "store" => or_usage(store_of(words), "store planar, or store packed"),
+            "format" => format_of(words).ok_or("format PAYLOAD-TYPE SSRC FORMAT-LINE")?,
+            "read" => read_of(words).ok_or("read TIMESTAMP FIELD HEX")?,
+            "store" => store_of(words).ok_or("store planar, or store packed")?,
             "ramp" => Command::Ramp,
-            "show" => or_usage(show_of(words), "show PLANE ROW COLUMN"),
-            "put" => or_usage(put_of(words), "put PLANE ROW COLUMN VALUE"),
-            "send" => or_usage(send_of(words), "send TIMESTAMP FIELD SEQUENCE-NUMBER"),
-            "open" => or_usage(open_of(words), "open TIMESTAMP FIELD"),
+            "show" => show_of(words).ok_or("show PLANE ROW COLUMN")?,
+            "put" => put_of(words).ok_or("put PLANE ROW COLUMN VALUE")?,
+            "send" => send_of(words).ok_or("send TIMESTAMP FIELD SEQUENCE-NUMBER")?,
+            "open" => open_of(words).ok_or("open TIMESTAMP FIELD")?,
             "packet" => Command::Packet(words),
             "count" => Command::Count,
             "close" => Command::Close,
-            _ => Command::Unknown(
-                "demo, time, format, read, store, ramp, show, put, send, open, packet, count or close",
-            ),
-        }
-    }
-}
-
-fn or_usage<'a>(command: Option<Command<'a>>, usage: &'static str) -> Command<'a> {
-    match command {
-        Some(command) => command,
-        None => Command::Unknown(usage),
+            _ => {
+                return Err(
+                    "demo, time, format, read, store, ramp, show, put, send, open, packet, count or close",
+                );
+            }
+        };
+        Ok(Some(command))
     }
 }
 
 // The word before the first blank, and what stands behind it.
 fn first_word(text: &str) -> (&str, &str) {
-    match text.split_once(' ') {
-        Some(parts) => parts,
-        None => (text, ""),
-    }
+    text.split_once(' ').unwrap_or((text, ""))
 }
 
-fn format_of(words: &str) -> Option<Command<'_>> {
-    let (payload_type, words) = first_word(words);
-    let (ssrc, line) = first_word(words);
-    Some(Command::Format(
-        payload_type.parse::<u8>().ok()?,
-        ssrc.parse::<u32>().ok()?,
-        line,
-    ))
-}
-
-fn read_of(words: &str) -> Option<Command<'_>> {
+// A part, and what stands behind its timestamp and its field.
+fn part_of(words: &str) -> Option<(PartName, &str)> {
     let (timestamp, words) = first_word(words);
-    let (field, hex) = first_word(words);
-    Some(Command::Read(
-        timestamp.parse::<u32>().ok()?,
-        field.parse::<u8>().ok()?,
-        hex,
-    ))
-}
-
-fn store_of(words: &str) -> Option<Command<'_>> {
-    match words {
-        "planar" => Some(Command::Store(Layout::Planar)),
-        "packed" => Some(Command::Store(Layout::Packed)),
-        _ => None,
-    }
-}
-
-fn show_of(words: &str) -> Option<Command<'_>> {
-    let (place, rest) = place_of(words)?;
-    if rest.is_empty() {
-        Some(Command::Show(place))
-    } else {
-        None
-    }
-}
-
-fn put_of(words: &str) -> Option<Command<'_>> {
-    let (place, value) = place_of(words)?;
-    Some(Command::Put(place, value.parse::<u16>().ok()?))
+    let (field, rest) = first_word(words);
+    let part = PartName {
+        timestamp: timestamp.parse::<u32>().ok()?,
+        field: field.parse::<u8>().ok()?,
+    };
+    Some((part, rest))
 }
 
 // A place, and what stands behind it.
@@ -145,17 +131,45 @@ fn place_of(words: &str) -> Option<(Place, &str)> {
     Some((place, rest))
 }
 
+fn format_of(words: &str) -> Option<Command<'_>> {
+    let (payload_type, words) = first_word(words);
+    let (ssrc, line) = first_word(words);
+    Some(Command::Format(Stream {
+        payload_type: payload_type.parse::<u8>().ok()?,
+        ssrc: ssrc.parse::<u32>().ok()?,
+        line,
+    }))
+}
+
+fn read_of(words: &str) -> Option<Command<'_>> {
+    let (part, hex) = part_of(words)?;
+    Some(Command::Read(part, hex))
+}
+
+fn store_of(words: &str) -> Option<Command<'_>> {
+    match words {
+        "planar" => Some(Command::Store(Layout::Planar)),
+        "packed" => Some(Command::Store(Layout::Packed)),
+        _ => None,
+    }
+}
+
+fn show_of(words: &str) -> Option<Command<'_>> {
+    let (place, rest) = place_of(words)?;
+    rest.is_empty().then_some(Command::Show(place))
+}
+
+fn put_of(words: &str) -> Option<Command<'_>> {
+    let (place, value) = place_of(words)?;
+    Some(Command::Put(place, value.parse::<u16>().ok()?))
+}
+
 fn send_of(words: &str) -> Option<Command<'_>> {
-    let (timestamp, words) = first_word(words);
-    let (field, sequence) = first_word(words);
-    Some(Command::Send(
-        timestamp.parse::<u32>().ok()?,
-        field.parse::<u8>().ok()?,
-        sequence.parse::<u32>().ok()?,
-    ))
+    let (part, sequence) = part_of(words)?;
+    Some(Command::Send(part, sequence.parse::<u32>().ok()?))
 }
 
 fn open_of(words: &str) -> Option<Command<'_>> {
-    let (timestamp, field) = first_word(words);
-    Some(Command::Open(timestamp.parse::<u32>().ok()?, field.parse::<u8>().ok()?))
+    let (part, rest) = part_of(words)?;
+    rest.is_empty().then_some(Command::Open(part))
 }
