@@ -102,7 +102,7 @@ module _ (t : Part) (v : Picture) (seq g : ℕ) (buffer : List ℕ) where
 
 -- what follows a packet as it was planned
 pub drawn_as_planned : {K : Type 0} (kind : K → Kind) (v : Picture) (s : State K) (room : ℕ) (p : Plan)
-    → Written (part_of kind s.part) v s.sequence s.group room p → after_plan s p ≡ drawing kind v s room
+    → Written (part_of kind s.part) v s.sequence s.group room p → Ok (after_plan s p) ≡ drawing kind v s room
 drawn_as_planned kind v s room p w =
     let t = part_of kind s.part in
     let seq : ℕ = next_sequence s.sequence in
@@ -112,7 +112,7 @@ drawn_as_planned kind v s room p w =
     let F : Bool → ℕ → ℕ → Outcome _ = λ b next n.
     cond b (last seq n) (more (record { part = s.part; sequence = seq; group = next }) n) in
     let long : p.octets ≡ n = sym (planned_length (limits w.tested) v s.sequence w.planned) in
-    ap (λ b. F b p.next p.octets) w.planned.last
+    ap Ok (ap (λ b. F b p.next p.octets) w.planned.last
     ∙ ap (λ x. F b x p.octets) w.planned.next
-    ∙ ap (F b next) long
+    ∙ ap (F b next) long)
     ∙ ap (λ r. refused_or r s (F b next n)) (sym w.allowed)

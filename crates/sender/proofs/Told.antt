@@ -1,5 +1,5 @@
 -- What the answer of a draw tells its caller, and why drawing comes to an end.
-use Rattle.std.proofs.Common.{◌≡◌, ℕ, ◌-◌, ◌<◌, Bool, true, false, cond, not, ltb, [], ◌∷◌, length, Some, None, Option, refl, ap, arith}
+use Rattle.std.proofs.Common.{◌≡◌, ℕ, ◌-◌, ◌<◌, Bool, true, false, cond, not, ltb, [], ◌∷◌, length, Some, None, Ok, Option, refl, ap, arith}
 use Rattle.std.proofs.lemmas.Bool.{leb-false}
 use Rattle.formats.specs.Meaning.{part_of}
 use Rattle.theory.specs.Answers.{first_row}
@@ -22,7 +22,7 @@ pub record WentOn {K : Type 0} (kind : K → Kind) (v : Picture) (s next : State
   pub group : next.group ≡ after_packet (part_of kind s.part) s.group
   pub octets : n ≡ length (packet (part_of kind s.part) v s.sequence s.group)
 
-pub more_told : {K : Type 0} (kind : K → Kind) (v : Picture) (s next : State K) (room n : ℕ) → more next n ≡ drawing kind v s room
+pub more_told : {K : Type 0} (kind : K → Kind) (v : Picture) (s next : State K) (room n : ℕ) → Ok (more next n) ≡ drawing kind v s room
     → WentOn kind v s next room n
 more_told {K} kind v s next room n e =
     let t = part_of kind s.part in
@@ -37,7 +37,7 @@ more_told {K} kind v s next room n e =
     }
   where
     go : (o : Option ℕ) (b : Bool) (seq m : ℕ) (then : State K)
-        → more next n ≡ refused_or o s (cond b (last seq m) (more then m))
+        → Ok (more next n) ≡ refused_or o s (cond b (last seq m) (more then m))
         → (o ≡ None) × (b ≡ false) × (next ≡ then) × (n ≡ m)
     go None false seq m then e = (refl, refl, cc, cc)
     go None true seq m then e = absurd (let z : ◌≡◌ {A = ℕ} 0 1 = cc in omega arith)
@@ -50,7 +50,7 @@ lawful_when false b c e = absurd (let z : ◌≡◌ {A = ℕ} 0 1 = cc in omega 
 
 -- with each packet fewer groups are left: the measure of a loop that draws to the end of a part
 pub nearer : {K : Type 0} (kind : K → Kind) → ((x : K) → LawfulKind (kind x)) → (v : Picture) (s next : Sending K) (room n : ℕ)
-    → more (state_of next) n ≡ drawing kind v (state_of s) room
+    → Ok (more (state_of next) n) ≡ drawing kind v (state_of s) room
     → groups (part_of kind next.part) - next.group < groups (part_of kind s.part) - s.group
 nearer kind laws v s next room n e =
     let t : Part = part_of kind s.part in

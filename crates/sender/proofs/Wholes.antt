@@ -1,5 +1,5 @@
 -- Packet after packet, to the end of a part.
-use Rattle.std.proofs.Common.{◌≡◌, ℕ, zero, suc, ◌+◌, ◌-◌, ◌<◌, ◌≤◌, Bool, true, false, cond, List, [], ◌∷◌, ◌++◌, length, take, drop, sym, refl, ap, ◌∙◌, subst, ⊎_elim, append_assoc, arith}
+use Rattle.std.proofs.Common.{◌≡◌, ℕ, zero, suc, ◌+◌, ◌-◌, ◌<◌, ◌≤◌, Bool, true, false, cond, List, [], ◌∷◌, ◌++◌, length, take, drop, Ok, sym, refl, ap, ◌∙◌, subst, ⊎_elim, append_assoc, arith}
 use Rattle.std.proofs.lemmas.List.{take_at}
 use Rattle.std.proofs.lemmas.Bool.{cases_Bool, cond-true, cond-false, leb-false}
 use Rattle.theory.specs.Formats.{Part, groups}
@@ -9,8 +9,8 @@ use Rattle.theory.proofs.Limits.{Limits, groups_pos}
 use Rattle.theory.proofs.Written.{after_more}
 use Rattle.sender.specs.declared.plan.Plan.{Plan}
 use Rattle.sender.specs.declared.sending.Step.{Step}
-use Rattle.sender.specs.declared.sending.Step.TheVariants.{More, Last, Refused}
-use Rattle.sender.specs.Drawing.{State, more, last, stepped}
+use Rattle.sender.specs.declared.sending.Step.TheVariants.{More, Last}
+use Rattle.sender.specs.Drawing.{State, more, last, step_of}
 use Rattle.sender.specs.Plans.{after_plan}
 use Rattle.sender.specs.Wholes.{Drawn, opened, drawn, IfLast}
 
@@ -79,10 +79,9 @@ pub front : (q old out : List ℕ) (n : ℕ) → length q ≡ n → out ≡ q ++
 front q old out n e is = ap (take n) is ∙ take_at q (drop (length q) old) n e
 
 -- a step as planned is the last one where the plan says so
-pub at_last : {K : Type 0} (r : Step K) (P : ℕ → Type 0) (s : State K) (p : Plan) → stepped r ≡ after_plan s p
-    → (p.last ≡ true → P p.octets) → IfLast r P
+pub at_last : {K : Type 0} (r : Step K) (P : ℕ → Type 0) (s : State K) (p : Plan) → step_of r ≡ after_plan s p
+    → (p.last ≡ true → P p.octets) → IfLast (Ok r) P
 at_last (More x n) P s p e h = tt
-at_last (Refused x y) P s p e h = tt
 at_last (Last x n) P s p e h = go p.last h e
   where
     go : (b : Bool) → (b ≡ true → P p.octets)

@@ -11,7 +11,7 @@ use Rattle.theory.specs.Pictures.{Picture}
 use Rattle.theory.specs.Cutting.{packet, is_last, after_packet, next_sequence, send_refusal, draw_refusal}
 use Rattle.sender.specs.declared.sending.Sending.{Sending}
 use Rattle.sender.specs.declared.sending.Step.{Step}
-use Rattle.sender.specs.declared.sending.Step.TheVariants.{More, Last, Refused}
+use Rattle.sender.specs.declared.sending.Step.TheVariants.{More, Last}
 
 -- a part on its way, with the sequence number and the first group of its next packet
 pub record State (K : Type 0) : Type 0 where
@@ -32,23 +32,25 @@ abbrev pub answered : {K : Type 0} → Result (Sending K) Refusal → Result (St
 answered (Ok s) = Ok (state_of s)
 answered (Err e) = Err (number_of e)
 
--- what a draw answers: a packet of this length, after which the part goes on from a state, or is sent and the next one begins with this
--- sequence number; or the number of a refusal, and the state
+-- what a packet leaves: it has this length, and the part goes on from a state, or is sent and the next one begins with this sequence number
 pub data Outcome (K : Type 0) : Type 0 where
   more : State K → ℕ → Outcome K
   last : ℕ → ℕ → Outcome K
-  refused : State K → ℕ → Outcome K
 
-abbrev pub stepped : {K : Type 0} → Step K → Outcome K
-stepped (More s n) = more (state_of s) n
-stepped (Last e n) = last e.sequence n
-stepped (Refused s e) = refused (state_of s) (number_of e)
+abbrev pub step_of : {K : Type 0} → Step K → Outcome K
+step_of (More s n) = more (state_of s) n
+step_of (Last e n) = last e.sequence n
 
-abbrev pub refused_or : {K : Type 0} → Option ℕ → State K → Outcome K → Outcome K
-refused_or None s o = o
-refused_or (Some row) s o = refused s row
+-- what a draw answers: what its packet leaves; or the state as it was, and the number of a refusal
+abbrev pub stepped : {K : Type 0} → Result (Step K) (Sending K × Refusal) → Result (Outcome K) (State K × ℕ)
+stepped (Ok step) = Ok (step_of step)
+stepped (Err e) = Err (state_of e.0, number_of e.1)
 
-abbrev pub drawing : {K : Type 0} → (K → Kind) → Picture → State K → ℕ → Outcome K
+abbrev pub refused_or : {K : Type 0} → Option ℕ → State K → Outcome K → Result (Outcome K) (State K × ℕ)
+refused_or None s o = Ok o
+refused_or (Some row) s o = Err (s, row)
+
+abbrev pub drawing : {K : Type 0} → (K → Kind) → Picture → State K → ℕ → Result (Outcome K) (State K × ℕ)
 drawing kind v s room =
     let t = part_of kind s.part in
     let n = length (packet t v s.sequence s.group) in

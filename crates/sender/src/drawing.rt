@@ -3,7 +3,7 @@
 ghost use Rattle.std.specs.Prelude.{◌≡◌, ℕ, List, [], ◌∷◌, ◌++◌, length, take};
 ghost use Rattle.formats.specs.Meaning.{part_of};
 ghost use Rattle.theory.specs.Cutting.{buffer_after, whole_part};
-ghost use Rattle.sender.specs.Drawing.{state_of, opening, answered, stepped, drawing};
+ghost use Rattle.sender.specs.Drawing.{state_of, opening, answered, step_of, stepped, drawing};
 ghost use Rattle.sender.specs.Plans.{after_plan, Drew};
 ghost use Rattle.sender.specs.Wholes.{Drawn, IfLast};
 
@@ -40,14 +40,18 @@ impl<K: GroupKind + Copy> Sending<K> {
 
     /// Writes the next packet at the start of a buffer; every octet behind it stays. Refusal 4 outside the limits, then 6 for a store
     /// unlike the part, then 19 for a buffer shorter than the packet: the buffer stays, and the part is handed back as it was.
-    pub fn next<S: Store>(self, store: &S, buffer: &mut [u8]) -> Step<K>
+    pub fn next<S: Store>(
+        self,
+        store: &S,
+        buffer: &mut [u8],
+    ) -> Result<Step<K>, (Sending<K>, Refusal)>
         ensures answer { stepped result ≡ drawing K.GroupKind.kind (S.Store.picture store.now) (state_of self) (length buffer.old) }
         ensures buffer { buffer.new ≡ buffer_after (part_of K.GroupKind.kind self.part) (S.Store.picture store.now) self.sequence self.group buffer.old }
         ensures whole { let t = part_of K.GroupKind.kind self.part in let v = S.Store.picture store.now in IfLast result (λ n. (first : ℕ) (packets : List (List ℕ)) → Drawn t v first packets self.sequence self.group → packets ++ (take n buffer.new ∷ []) ≡ whole_part t v first) }
     {
         match self.draw(store, buffer) {
-            Ok(plan) => self.after(&plan),
-            Err(refusal) => Step::Refused(self, refusal),
+            Ok(plan) => Ok(self.after(&plan)),
+            Err(refusal) => Err((self, refusal)),
         }
     }
 
@@ -71,7 +75,7 @@ impl<K: GroupKind + Copy> Sending<K> {
 
     // The state behind a packet.
     fn after(self, plan: &Plan) -> Step<K>
-        ensures { stepped result ≡ after_plan (state_of self) plan.now }
+        ensures { step_of result ≡ after_plan (state_of self) plan.now }
     {
         let sequence = self.sequence.wrapping_add(1);
         if plan.last {

@@ -4,7 +4,6 @@ ghost use Rattle.std.specs.Prelude.{◌≡◌, true};
 ghost use Rattle.sender.specs.Fields.{has_field};
 
 use formats::Part;
-use refusals::Refusal;
 
 /// A part on its way, with the sequence number and the first group of its next packet. Each packet takes it and hands it on.
 #[derive(Drop)]
@@ -21,15 +20,13 @@ pub struct Sent {
     pub(crate) sequence: u32,
 }
 
-/// What drawing a packet answers.
+/// What drawing a packet leaves.
 #[derive(Drop)]
 pub enum Step<K> {
     /// A packet of so many octets was written, and the part goes on.
     More(Sending<K>, usize),
     /// The last packet of the part was written, of so many octets.
     Last(Sent, usize),
-    /// Nothing was written, and the part is as it was.
-    Refused(Sending<K>, Refusal),
 }
 
 impl Sent {

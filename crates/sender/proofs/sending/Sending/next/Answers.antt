@@ -1,4 +1,4 @@
-use Rattle.std.proofs.Common.{◌≡◌, ℕ, List, [], ◌∷◌, ◌++◌, length, take, sym, ap, ◌∙◌}
+use Rattle.std.proofs.Common.{◌≡◌, ℕ, List, [], ◌∷◌, ◌++◌, length, take, Ok, sym, ap, ◌∙◌}
 use Rattle.formats.specs.Meaning.{part_of}
 use Rattle.theory.specs.Cutting.{whole_part}
 use Rattle.sender.specs.Drawing.{state_of}
@@ -24,7 +24,7 @@ returns-in-Ok g c =
     let there = front _ old out p.octets (planned_length lim v s.sequence w.planned)
     (c.draw.ensures.buffer ∙ sym (buffer_written t v s.sequence s.group old w.allowed)) in
     record {
-      answer = c.after.ensures ∙ drawn_as_planned g.K.GroupKind.kind v (state_of s) (length old) p w;
+      answer = ap Ok c.after.ensures ∙ drawn_as_planned g.K.GroupKind.kind v (state_of s) (length old) p w;
       buffer = c.draw.ensures.buffer;
       whole = at_last c.after.result Whole (state_of s) p c.after.ensures
           (λ last first ps d. ap (λ q. ps ++ (q ∷ [])) there ∙ whole_with_last t lim v d (sym w.planned.last ∙ last));
