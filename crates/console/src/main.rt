@@ -4,30 +4,53 @@
 //! The program's two arguments, if given, are the payload type and the SSRC of the streams; else they are 96 and 1.
 #![tactic(auto)]
 
-mod geometry;
-mod octets;
 mod packet;
 mod task;
 
 use fmtp::Listing;
 use packet::Given;
 use records::Record;
+use reports::{FormatTask, Refused, with_format};
 use std::io::{BufRead, BufReader};
 use std::{env, str};
-use task::{Stream, Task, perform};
+use task::{Describe, ReadPacket};
+
+/// How a stream is told apart from others: its payload type and its SSRC.
+#[derive(Clone, Copy)]
+struct Stream {
+    payload_type: u8,
+    ssrc: u32,
+}
+
+impl Stream {
+    // What the program's arguments give, and else 96 and 1.
+    fn from_args(rt: &HostRuntime) -> anyhow::Result<Stream> {
+        let mut words = env::args(rt)?;
+        let _program = words.next();
+        let payload_type = match words.next() {
+            Some(word) => word.as_str().parse::<u8>()?,
+            None => 96,
+        };
+        let ssrc = match words.next() {
+            Some(word) => word.as_str().parse::<u32>()?,
+            None => 1,
+        };
+        Ok(Stream { payload_type, ssrc })
+    }
+}
 
 fn main(rt: HostRuntime) -> anyhow::Result<()> {
     run(&rt)
 }
 
 fn run(rt: &HostRuntime) -> anyhow::Result<()> {
-    let stream = stream(rt)?;
+    let stream = Stream::from_args(rt)?;
     let mut last: Option<Record> = None;
-    let mut number: u64 = 0;
-    for line in BufReader::new(rt.alloc(), rt.stdin())?.split(rt.alloc(), b'\n') {
+    let lines = BufReader::new(rt.alloc(), rt.stdin())?.split(rt.alloc(), b'\n');
+    for (i, line) in lines.enumerate() {
         let line = line?;
         let line = without_return(&line);
-        number = number.saturating_add(1);
+        let number = i.saturating_add(1);
         println!(rt; "line {number}:")?;
         match line.strip_prefix(b"packet ") {
             Some(words) => read_packet(rt, &last, stream, words)?,
@@ -36,21 +59,6 @@ fn run(rt: &HostRuntime) -> anyhow::Result<()> {
         println!(rt; "")?;
     }
     Ok(())
-}
-
-// The payload type and the SSRC that the arguments give.
-fn stream(rt: &HostRuntime) -> anyhow::Result<Stream> {
-    let mut words = env::args(rt)?;
-    let _program = words.next();
-    let payload_type = match words.next() {
-        Some(word) => word.as_str().parse::<u8>()?,
-        None => 96,
-    };
-    let ssrc = match words.next() {
-        Some(word) => word.as_str().parse::<u32>()?,
-        None => 1,
-    };
-    Ok(Stream { payload_type, ssrc })
 }
 
 // A line of a session description ends in a carriage return.
@@ -64,14 +72,26 @@ fn announce(rt: &HostRuntime, line: &[u8], stream: Stream) -> anyhow::Result<Opt
         Ok(record) => {
             let listing = Listing(&record);
             print!(rt; "{listing}")?;
-            perform(rt, &record, stream, Task::Describe)?;
+            perform(rt, &record, stream, &mut Describe { rt })?;
             Ok(Some(record))
         }
         Err(refusal) => {
-            let number = refusal.number();
-            println!(rt; "refused {number}: {refusal}")?;
+            println!(rt; "{}", Refused(refusal))?;
             Ok(None)
         }
+    }
+}
+
+// Does a task with the format that a record announces, or says that the format is refused.
+fn perform<T: FormatTask<Out = anyhow::Result<()>>>(
+    rt: &HostRuntime,
+    record: &Record,
+    stream: Stream,
+    task: &mut T,
+) -> anyhow::Result<()> {
+    match with_format(record, stream.payload_type, stream.ssrc, task) {
+        Ok(done) => done,
+        Err(refusal) => Ok(println!(rt; "format         {}", Refused(refusal))?),
     }
 }
 
@@ -86,12 +106,8 @@ fn read_packet(
         println!(rt; "not understood: a packet wants a format line before it")?;
         return Ok(());
     };
-    let given = match str::from_utf8(words) {
-        Ok(words) => Given::parse(words),
-        Err(_) => None,
-    };
-    match given {
-        Some(given) => perform(rt, record, stream, Task::Read(given)),
+    match str::from_utf8(words).ok().and_then(Given::parse) {
+        Some(given) => perform(rt, record, stream, &mut ReadPacket { rt, given }),
         None => {
             println!(rt;
                 "not understood: write packet, a timestamp, a field and the packet in hex"

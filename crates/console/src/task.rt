@@ -1,66 +1,53 @@
-//! What is done with a record: its format is made for the kind of its sampling, and a task done with that.
+//! What is done with the format that a record announces.
 
-use crate::geometry::print_format;
-use crate::packet::{Given, print_packet};
-use formats::{Format, SampledKind};
-use kinds::{Key, Rgb, Xyz, Ycc420, Ycc422, Ycc444};
-use records::{Record, Sampling};
+use crate::packet::Given;
+use formats::{Format, Part, SampledKind};
+use packets::Packet;
+use reports::{Contents, FormatTask, Geometry, Refused};
 
-/// How a stream is told apart from others: its payload type and its SSRC.
-#[derive(Clone, Copy)]
-pub struct Stream {
-    pub payload_type: u8,
-    pub ssrc: u32,
+/// Says what follows from the format.
+#[derive(Drop)]
+pub struct Describe<'a> {
+    pub rt: &'a HostRuntime,
 }
 
-#[derive(Clone, Copy)]
-pub enum Task<'a> {
-    /// Say what follows from the format.
-    Describe,
-    /// Read a packet for a part of the format.
-    Read(Given<'a>),
-}
+impl FormatTask for Describe<'_> {
+    type Out = anyhow::Result<()>;
 
-/// Does a task with the format that a record announces, or says that the format is refused.
-pub fn perform(
-    rt: &HostRuntime,
-    record: &Record,
-    stream: Stream,
-    task: Task,
-) -> anyhow::Result<()> {
-    match record.sampling {
-        Sampling::YCbCr444 | Sampling::ClYCbCr444 | Sampling::ICtCp444 => perform_for(
-            rt, Ycc444, record, stream, task,
-        ),
-        Sampling::YCbCr422 | Sampling::ClYCbCr422 | Sampling::ICtCp422 => perform_for(
-            rt, Ycc422, record, stream, task,
-        ),
-        Sampling::YCbCr420 | Sampling::ClYCbCr420 | Sampling::ICtCp420 => perform_for(
-            rt, Ycc420, record, stream, task,
-        ),
-        Sampling::Rgb => perform_for(rt, Rgb, record, stream, task),
-        Sampling::Xyz => perform_for(rt, Xyz, record, stream, task),
-        Sampling::Key => perform_for(rt, Key, record, stream, task),
+    ghost Leaves = { λ _ _ _ _. Unit {0} };
+
+    fn run<K: SampledKind + Copy>(&mut self, format: &Format<K>) -> anyhow::Result<()> {
+        Ok(print!(self.rt; "{}", Geometry(format))?)
     }
 }
 
-fn perform_for<K: SampledKind + Copy>(
-    rt: &HostRuntime,
-    kind: K,
-    record: &Record,
-    stream: Stream,
-    task: Task,
-) -> anyhow::Result<()> {
-    let format = match Format::announced(kind, record, stream.payload_type, stream.ssrc) {
-        Ok(format) => format,
-        Err(refusal) => {
-            let number = refusal.number();
-            println!(rt; "format         refused {number}: {refusal}")?;
+/// Reads a packet for a part of the format, and says which segments it carries or why it is refused.
+#[derive(Drop)]
+pub struct ReadPacket<'a> {
+    pub rt: &'a HostRuntime,
+    pub given: Given<'a>,
+}
+
+impl FormatTask for ReadPacket<'_> {
+    type Out = anyhow::Result<()>;
+
+    ghost Leaves = { λ _ _ _ _. Unit {0} };
+
+    fn run<K: SampledKind + Copy>(&mut self, format: &Format<K>) -> anyhow::Result<()> {
+        let rt = self.rt;
+        let Ok(octets) = hex::decode(rt.alloc(), self.given.hex) else {
+            println!(rt; "not understood: a packet is an even number of hex digits")?;
             return Ok(());
+        };
+        let part = Part {
+            format: *format,
+            timestamp: self.given.timestamp,
+            field: self.given.field,
+        };
+        match Packet::read(&octets, &part) {
+            Ok(packet) => print!(rt; "{}", Contents(&packet))?,
+            Err(refusal) => println!(rt; "{}", Refused(refusal))?,
         }
-    };
-    match task {
-        Task::Describe => print_format(rt, &format),
-        Task::Read(given) => print_packet(rt, &format, given),
+        Ok(())
     }
 }

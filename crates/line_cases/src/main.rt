@@ -4,6 +4,7 @@
 
 use fmtp::read;
 use std::io::{BufRead, BufReader};
+use std::str;
 
 fn main(rt: HostRuntime) -> anyhow::Result<()> {
     let mut agree: u64 = 0;
@@ -13,13 +14,17 @@ fn main(rt: HostRuntime) -> anyhow::Result<()> {
         if row.first() == Some(&b'#') {
             continue;
         }
-        let (number, line) = parted(&row);
-        let answer = answer(line);
-        if answer == number {
+        let Some((due, line)) = parted(&row) else {
+            differ = differ.saturating_add(1);
+            println!(rt; "without a number: {row:?}")?;
+            continue;
+        };
+        let answer = read(line).err().map_or(0, |refusal| refusal.number());
+        if answer == due {
             agree = agree.saturating_add(1);
         } else {
             differ = differ.saturating_add(1);
-            println!(rt; "answered {answer}, not {number}: {line:?}")?;
+            println!(rt; "answered {answer}, not {due}: {line:?}")?;
         }
     }
     println!(rt; "{agree} answers agree, {differ} differ")?;
@@ -27,23 +32,8 @@ fn main(rt: HostRuntime) -> anyhow::Result<()> {
 }
 
 // The number in front of the first blank, and the line behind it.
-fn parted(row: &[u8]) -> (u32, &[u8]) {
-    let mut number: u32 = 0;
-    for (i, octet) in row.iter().enumerate() {
-        if *octet == b' ' {
-            return (number, &row[i + 1..]);
-        }
-        number = number
-            .wrapping_mul(10)
-            .wrapping_add(u32::from(octet.wrapping_sub(b'0')));
-    }
-    (u32::MAX, row)
-}
-
-// The number of the refusal, or 0 where the line is read.
-fn answer(line: &[u8]) -> u32 {
-    match read(line) {
-        Ok(_) => 0,
-        Err(refusal) => u32::from(refusal.number()),
-    }
+fn parted(row: &[u8]) -> Option<(u8, &[u8])> {
+    let blank = row.iter().position(|octet| *octet == b' ')?;
+    let number = str::from_utf8(&row[..blank]).ok()?.parse::<u8>().ok()?;
+    Some((number, &row[blank + 1..]))
 }

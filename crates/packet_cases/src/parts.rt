@@ -1,61 +1,62 @@
 //! The formats that the letters of a row name.
 
-use formats::{Format, Part};
+use formats::{Format, Mode, Part, Scan};
 use kinds::{GroupKind, Key, Rgb, Ycc420, Ycc422, Ycc444};
 use packets::Packet;
 use refusals::Refusal;
 
-const SSRC: u32 = 1;
-
-// Depth, width, height, scan, mode and payload type.
-#[derive(Clone, Copy)]
-struct Numbers(u8, u16, u16, u8, u8, u8);
-
 /// The packet, read for a part of the format that the letter names.
-pub fn read(letter: u8, timestamp: u32, field: u8, octets: &[u8]) -> Result<Packet, Refusal> {
+pub fn read<'a>(
+    letter: &str,
+    timestamp: u32,
+    field: u8,
+    octets: &'a [u8],
+) -> Result<Packet<'a>, Refusal> {
     match letter {
-        b'D' | b'Y' => Packet::read(octets, &part(Ycc420, letter, timestamp, field)),
-        b'E' => Packet::read(octets, &part(Ycc444, letter, timestamp, field)),
-        b'F' => Packet::read(octets, &part(Key, letter, timestamp, field)),
-        b'G' => Packet::read(octets, &part(Rgb, letter, timestamp, field)),
+        "D" | "Y" => Packet::read(octets, &part(Ycc420, letter, timestamp, field)),
+        "E" => Packet::read(octets, &part(Ycc444, letter, timestamp, field)),
+        "F" => Packet::read(octets, &part(Key, letter, timestamp, field)),
+        "G" => Packet::read(octets, &part(Rgb, letter, timestamp, field)),
         _ => Packet::read(octets, &part(Ycc422, letter, timestamp, field)),
     }
 }
 
-fn part<K: GroupKind + Copy>(kind: K, letter: u8, timestamp: u32, field: u8) -> Part<K> {
-    let Numbers(depth, width, height, scan, mode, payload_type) = numbers_of(letter);
-    let format = Format {
-        kind,
-        depth,
-        width,
-        height,
-        scan,
-        mode,
-        payload_type,
-        ssrc: SSRC,
-    };
+fn part<K: GroupKind + Copy>(kind: K, letter: &str, timestamp: u32, field: u8) -> Part<K> {
     Part {
-        format,
+        format: format_of(kind, letter),
         timestamp,
         field,
     }
 }
 
 // From U on the formats are outside the limits, but for W.
-fn numbers_of(letter: u8) -> Numbers {
+fn format_of<K: Copy>(kind: K, letter: &str) -> Format<K> {
+    let hd = Format {
+        kind,
+        depth: 10,
+        width: 1920,
+        height: 1080,
+        scan: Scan::Progressive as u8,
+        mode: Mode::General as u8,
+        payload_type: 96,
+        ssrc: 1,
+    };
+    let block = Mode::Block as u8;
+    let interlaced = Scan::Interlaced as u8;
+    let segmented = Scan::Segmented as u8;
     match letter {
-        b'A' => Numbers(10, 1920, 1080, 0, 1, 96),
-        b'B' => Numbers(10, 1920, 1080, 0, 2, 96),
-        b'C' => Numbers(10, 1920, 1081, 1, 1, 96),
-        b'D' => Numbers(10, 1920, 9, 0, 1, 96),
-        b'E' => Numbers(10, 5, 4, 0, 1, 127),
-        b'F' => Numbers(8, 1, 1, 0, 1, 96),
-        b'G' => Numbers(8, 720, 486, 2, 1, 96),
-        b'U' => Numbers(10, 1920, 1080, 0, 1, 95),
-        b'V' => Numbers(10, 250, 1080, 0, 2, 96),
-        b'W' => Numbers(10, 252, 1080, 0, 2, 96),
-        b'X' => Numbers(9, 1920, 1080, 0, 1, 96),
-        b'Y' => Numbers(10, 1920, 1080, 1, 1, 96),
-        _ => Numbers(10, 0, 1080, 0, 1, 96),
+        "A" => hd,
+        "B" => Format { mode: block, ..hd },
+        "C" => Format { height: 1081, scan: interlaced, ..hd },
+        "D" => Format { height: 9, ..hd },
+        "E" => Format { width: 5, height: 4, payload_type: 127, ..hd },
+        "F" => Format { depth: 8, width: 1, height: 1, ..hd },
+        "G" => Format { depth: 8, width: 720, height: 486, scan: segmented, ..hd },
+        "U" => Format { payload_type: 95, ..hd },
+        "V" => Format { width: 250, mode: block, ..hd },
+        "W" => Format { width: 252, mode: block, ..hd },
+        "X" => Format { depth: 9, ..hd },
+        "Y" => Format { scan: interlaced, ..hd },
+        _ => Format { width: 0, ..hd },
     }
 }

@@ -2,6 +2,7 @@
 
 ghost use Rattle.std.specs.Prelude.{◌≡◌};
 ghost use Rattle.theory.specs.Formats as formats;
+ghost use Rattle.formats.specs.Announced.{announced};
 ghost use Rattle.formats.specs.Meaning.{format_of};
 ghost use Rattle.reports.specs.Announcing.{Announces, announced_for};
 
@@ -15,7 +16,7 @@ pub trait FormatTask {
     type Out;
 
     /// How the task is left by a format, and with which outcome.
-    ghost Leaves: { Self → formats.Format → Out → Self → Type 0 };
+    ghost Leaves: { Self → formats.Format → Self.Out → Self → Type 0 };
 
     fn run<K: SampledKind + Copy>(&mut self, format: &Format<K>) -> Self::Out
         ensures { Leaves self.old (format_of K.GroupKind.kind format.now) result self.new };
@@ -28,7 +29,7 @@ pub fn with_format<T: FormatTask>(
     ssrc: u32,
     task: &mut T,
 ) -> Result<T::Out, Refusal>
-    ensures { Announces (announced_for record.now payload_type ssrc) T.FormatTask.Leaves task.old result task.new }
+    ensures { Announces (announced_for «record».now payload_type ssrc) T.FormatTask.Leaves task.old result task.new }
 {
     match record.sampling {
         Sampling::YCbCr444 | Sampling::ClYCbCr444 | Sampling::ICtCp444 => {
@@ -53,7 +54,7 @@ fn with_kind<T: FormatTask, K: SampledKind + Copy>(
     task: &mut T,
     kind: K,
 ) -> Result<T::Out, Refusal>
-    ensures { Announces (announced K.SampledKind.served (K.GroupKind.kind kind) record.now payload_type ssrc) T.FormatTask.Leaves task.old result task.new }
+    ensures { Announces (announced K.SampledKind.served (K.GroupKind.kind kind) «record».now payload_type ssrc) T.FormatTask.Leaves task.old result task.new }
 {
     let format = Format::announced(kind, record, payload_type, ssrc)?;
     Ok(task.run(&format))

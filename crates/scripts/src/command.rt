@@ -100,6 +100,35 @@ impl<'a> Command<'a> {
         };
         Ok(Some(command))
     }
+
+    /// Whether a format is all that the command wants.
+    pub fn is_for_stream(&self) -> bool {
+        matches!(self, Command::Read(_, _) | Command::Store(_))
+    }
+
+    /// Whether the command is for a store.
+    pub fn is_for_store(&self) -> bool {
+        matches!(
+            self,
+            Command::Ramp
+                | Command::Show(_)
+                | Command::Put(_, _)
+                | Command::Send(_, _)
+                | Command::Open(_)
+        )
+    }
+
+    /// Whether the command can be done while a part is open, and leaves it open or closes it.
+    pub fn is_for_part(&self) -> bool {
+        matches!(
+            self,
+            Command::Packet(_)
+                | Command::Count
+                | Command::Show(_)
+                | Command::Put(_, _)
+                | Command::Close
+        )
+    }
 }
 
 // The word before the first blank, and what stands behind it.
@@ -107,15 +136,11 @@ fn first_word(text: &str) -> (&str, &str) {
     text.split_once(' ').unwrap_or((text, ""))
 }
 
-// A part, and what stands behind its timestamp and its field.
-fn part_of(words: &str) -> Option<(PartName, &str)> {
-    let (timestamp, words) = first_word(words);
-    let (field, rest) = first_word(words);
-    let part = PartName {
+fn part_of(timestamp: &str, field: &str) -> Option<PartName> {
+    Some(PartName {
         timestamp: timestamp.parse::<u32>().ok()?,
         field: field.parse::<u8>().ok()?,
-    };
-    Some((part, rest))
+    })
 }
 
 // A place, and what stands behind it.
@@ -142,8 +167,9 @@ fn format_of(words: &str) -> Option<Command<'_>> {
 }
 
 fn read_of(words: &str) -> Option<Command<'_>> {
-    let (part, hex) = part_of(words)?;
-    Some(Command::Read(part, hex))
+    let (timestamp, words) = first_word(words);
+    let (field, hex) = first_word(words);
+    Some(Command::Read(part_of(timestamp, field)?, hex))
 }
 
 fn store_of(words: &str) -> Option<Command<'_>> {
@@ -165,11 +191,15 @@ fn put_of(words: &str) -> Option<Command<'_>> {
 }
 
 fn send_of(words: &str) -> Option<Command<'_>> {
-    let (part, sequence) = part_of(words)?;
-    Some(Command::Send(part, sequence.parse::<u32>().ok()?))
+    let (timestamp, words) = first_word(words);
+    let (field, sequence) = first_word(words);
+    Some(Command::Send(
+        part_of(timestamp, field)?,
+        sequence.parse::<u32>().ok()?,
+    ))
 }
 
 fn open_of(words: &str) -> Option<Command<'_>> {
-    let (part, rest) = part_of(words)?;
-    rest.is_empty().then_some(Command::Open(part))
+    let (timestamp, field) = first_word(words);
+    Some(Command::Open(part_of(timestamp, field)?))
 }

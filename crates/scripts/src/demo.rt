@@ -1,16 +1,16 @@
 //! Both moves, from beginning to end: a ramp goes out as packets, and the packets come back shuffled, repeated, late, cut by a stranger
 //! and damaged.
 
-use crate::reading::print_segments;
-use crate::script::say_refusal;
+use crate::part::count;
+use crate::sending::draw_all;
 use crate::shuffled::returning;
-use crate::store::{MOST_OCTETS, put_ramp};
-use formats::{Format, Part};
+use crate::store::put_ramp;
+use formats::{Format, Mode, Part, Scan};
 use kinds::{GroupKind, Ycc420, Ycc422};
 use packed::Packed;
 use packets::Packet;
 use receiver::{Idle, Open};
-use sender::{Sending, Step};
+use reports::{Contents, Refused};
 use stores::{Planar, Store};
 
 const TIMESTAMP: u32 = 900_000;
@@ -31,8 +31,8 @@ fn frame<K>(kind: K, width: u16, height: u16) -> Format<K> {
         depth: 10,
         width,
         height,
-        scan: 0,
-        mode: 1,
+        scan: Scan::Progressive as u8,
+        mode: Mode::General as u8,
         payload_type: 96,
         ssrc: 1,
     }
@@ -73,7 +73,7 @@ fn travel<K: GroupKind + Copy, C: Store, M: Store>(
         timestamp: TIMESTAMP,
         field: 0,
     };
-    let sent = send(rt, &part, camera, &mut [0; MOST_OCTETS])?;
+    let sent = send(rt, &part, camera)?;
     let offers = returning(rt.alloc(), &part, &sent)?;
     receive(rt, &part, &offers, monitor)?;
     let differ = differences(camera, monitor);
@@ -85,56 +85,30 @@ fn travel<K: GroupKind + Copy, C: Store, M: Store>(
     Ok(())
 }
 
-/// Sends a part, says what each packet carries, and gives the packets.
+// Sends a part, says what each packet carries, and gives the packets.
 fn send<K: GroupKind + Copy, C: Store>(
     rt: &HostRuntime,
     part: &Part<K>,
     camera: &C,
-    buffer: &mut [u8],
 ) -> anyhow::Result<Vec<Vec<u8>>> {
     let mut packets = Vec::new(rt.alloc());
-    let mut sending = match Sending::open(part.format, part.timestamp, part.field, SEQUENCE) {
-        Ok(sending) => sending,
-        Err(refusal) => {
-            say_refusal(rt, refusal)?;
-            return Ok(packets);
+    let keep = |packet: &[u8]| -> anyhow::Result<()> {
+        let length = packet.len();
+        println!(rt; "out, octets {length}")?;
+        match Packet::read(packet, part) {
+            Ok(packet) => print!(rt; "{}", Contents(&packet))?,
+            Err(refusal) => println!(rt; "{}", Refused(refusal))?,
         }
+        Ok(packets.push(packet.to_vec(rt.alloc())?)?)
     };
-    for _ in 0..part.groups() {
-        match sending.next(camera, buffer) {
-            Step::More(rest, length) => {
-                packets.push(drawn(rt, part, buffer, length)?)?;
-                sending = rest;
-            }
-            Step::Last(sent, length) => {
-                packets.push(drawn(rt, part, buffer, length)?)?;
-                let next = sent.next_sequence();
-                println!(rt; "sent, next sequence number {next}")?;
-                return Ok(packets);
-            }
-            Step::Refused(_, refusal) => {
-                say_refusal(rt, refusal)?;
-                return Ok(packets);
-            }
+    match draw_all(part, camera, SEQUENCE, keep)? {
+        Ok(sent) => {
+            let next = sent.next_sequence();
+            println!(rt; "sent, next sequence number {next}")?;
         }
+        Err(refusal) => println!(rt; "{}", Refused(refusal))?,
     }
     Ok(packets)
-}
-
-// A packet that stands at the buffer's start: says what it carries, and copies it.
-fn drawn<K: GroupKind>(
-    rt: &HostRuntime,
-    part: &Part<K>,
-    buffer: &[u8],
-    length: usize,
-) -> anyhow::Result<Vec<u8>> {
-    let packet = &buffer[..length.min(buffer.len())];
-    println!(rt; "out, octets {length}")?;
-    match Packet::read(packet, part) {
-        Ok(packet) => print_segments(rt, &packet)?,
-        Err(refusal) => say_refusal(rt, refusal)?,
-    }
-    Ok(packet.to_vec(rt.alloc())?)
 }
 
 // Offers packets to a part, and says each answer and how many groups are missing then.
@@ -154,7 +128,7 @@ fn receive<K: GroupKind + Copy, M: Store>(
             }
             let _idle = opened.close();
         }
-        Err((_, refusal)) => say_refusal(rt, refusal)?,
+        Err((_, refusal)) => println!(rt; "{}", Refused(refusal))?,
     }
     Ok(())
 }
@@ -171,23 +145,7 @@ fn offer<K: GroupKind + Copy, M: Store>(
             print!(rt; "in, taken, new groups {groups}, ")?;
             count(rt, opened, monitor, map)?;
         }
-        Err(refusal) => {
-            print!(rt; "in, ")?;
-            say_refusal(rt, refusal)?;
-        }
-    }
-    Ok(())
-}
-
-fn count<K: GroupKind + Copy, M: Store>(
-    rt: &HostRuntime,
-    opened: &Open<K>,
-    monitor: &M,
-    map: &[u8],
-) -> anyhow::Result<()> {
-    match opened.survey(monitor, map) {
-        Ok(groups) => println!(rt; "missing groups {groups}")?,
-        Err(refusal) => say_refusal(rt, refusal)?,
+        Err(refusal) => println!(rt; "in, {}", Refused(refusal))?,
     }
     Ok(())
 }

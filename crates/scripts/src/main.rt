@@ -4,18 +4,17 @@
 
 mod command;
 mod demo;
-mod geometry;
-mod octets;
 mod part;
 mod reading;
 mod script;
+mod sending;
 mod shuffled;
 mod store;
 mod stranger;
 mod stream;
 mod timing;
 
-use crate::script::run_script;
+use crate::script::{Script, run_script};
 use std::io::{BufRead, BufReader};
 
 fn main(rt: HostRuntime) -> anyhow::Result<()> {
@@ -27,5 +26,5 @@ fn run(rt: &HostRuntime) -> anyhow::Result<()> {
     for line in BufReader::new(rt.alloc(), rt.stdin())?.split(rt.alloc(), b'\n') {
         lines.push(line?)?;
     }
-    run_script(rt, &lines)
+    run_script(rt, &mut Script::new(&lines))
 }

@@ -1,7 +1,7 @@
 //! A part's packets as they may come back: some late or damaged, every second one twice and in another order, and all of it once more as a
 //! stranger cuts it.
 
-use crate::stranger::{Manner, Piece, packet_of, pieces};
+use crate::stranger::{Manner, packet_of, pieces};
 use formats::Part;
 use kinds::GroupKind;
 use packets::Packet;
@@ -40,8 +40,8 @@ fn push_damaged(heap: Global, offers: &mut Vec<Vec<u8>>, packet: &[u8]) -> Resul
 // The packet with some bits of one octet turned over.
 fn altered(heap: Global, packet: &[u8], at: usize, bits: u8) -> Result<Vec<u8>, AllocError> {
     let mut copy = packet.to_vec(heap)?;
-    if at < copy.len() {
-        copy[at] = copy[at] ^ bits;
+    if let Some(octet) = copy.get_mut(at) {
+        *octet ^= bits;
     }
     Ok(copy)
 }
@@ -70,11 +70,8 @@ fn push_stranger<K: GroupKind + Copy>(
 ) -> Result<(), AllocError> {
     let groups = groups_of(heap, part, sent)?;
     let cuts = pieces(heap, part, PIECE_GROUPS)?;
-    let cuts: &[Piece] = &cuts;
     let packets = cuts.len().div_ceil(PACKET_PIECES);
-    for i in 0..packets {
-        let start = i.saturating_mul(PACKET_PIECES).min(cuts.len());
-        let end = start.saturating_add(PACKET_PIECES).min(cuts.len());
+    for (i, pieces) in cuts.chunks(PACKET_PIECES).enumerate() {
         let last = i.saturating_add(1) == packets;
         let manner = Manner {
             sequence: (i & 0xffff) as u32,
@@ -83,7 +80,7 @@ fn push_stranger<K: GroupKind + Copy>(
             extension_words: 1,
             padding: if last { 4 } else { 0 },
         };
-        offers.push(packet_of(heap, part, &groups, &cuts[start..end], manner)?)?;
+        offers.push(packet_of(heap, part, &groups, pieces, manner)?)?;
     }
     Ok(())
 }
@@ -97,10 +94,8 @@ fn groups_of<K: GroupKind + Copy>(
     let mut groups = Vec::new(heap);
     for packet in sent {
         if let Ok(packet) = Packet::read(packet, part) {
-            for i in 0..packet.segments() {
-                if let Some(segment) = packet.segment(i) {
-                    groups.extend_from_slice(segment.octets)?;
-                }
+            for segment in (0..packet.segments()).filter_map(|i| packet.segment(i)) {
+                groups.extend_from_slice(segment.octets)?;
             }
         }
     }

@@ -1,85 +1,47 @@
 //! What is done with a store: its samples are shown and put, its parts sent, and parts opened to receive.
 
-ghost use Rattle.std.specs.Prelude.{◌≤◌, IfOk};
+ghost use Rattle.std.specs.Prelude.{◌≤◌, length};
 
-use crate::command::{Command, Place};
-use crate::octets::print_hex;
+use crate::command::{Command, PartName, Place};
 use crate::part::with_part;
-use crate::script::{command_at, do_anywhere, say_line, say_refusal};
-use formats::{Format, Part};
+use crate::script::Script;
+use crate::sending::draw_all;
+use formats::{Format, Scan};
 use kinds::GroupKind;
 use receiver::Idle;
-use sender::{Sending, Step};
+use reports::Refused;
 use std::io;
 use stores::{Field, Store};
 
-/// The most octets that a packet has.
-pub const MOST_OCTETS: usize = 1452;
-
-/// Does the commands that want a store, from line `start` on; says which line is next.
+/// Does the commands that want a store.
 pub fn with_store<K: GroupKind + Copy, S: Store>(
     rt: &HostRuntime,
-    lines: &[Vec<u8>],
-    start: usize,
+    script: &mut Script,
     format: &Format<K>,
     store: &mut S,
-) -> anyhow::Result<usize>
-    ensures { IfOk result (λ n. start ≤ n) }
+) -> anyhow::Result<()>
+    ensures { length script.new.rest.now ≤ length script.old.rest.now }
 {
-    let mut i = start;
-    while i < lines.len() {
-        match command_at(lines, i) {
-            Command::Open(timestamp, field) => {
-                say_line(rt, i)?;
-                i = open_part(rt, lines, i + 1, format, store, timestamp, field)?;
-            }
-            command => {
-                if !do_with_store(rt, i, format, store, command)? {
-                    return Ok(i);
-                }
-                i += 1;
+    while let Some(command) = script.next_if(rt, Command::is_for_store)? {
+        match command {
+            Command::Show(place) => show(rt, store, place)?,
+            Command::Put(place, value) => put(rt, store, place, value)?,
+            Command::Send(part, sequence) => send(rt, format, store, part, sequence)?,
+            Command::Open(part) => open_part(rt, script, format, store, part)?,
+            _ => {
+                put_ramp(store);
+                println!(rt; "done")?;
             }
         }
     }
-    Ok(i)
-}
-
-// Does a command that wants a store; false where it is another.
-fn do_with_store<K: GroupKind + Copy, S: Store>(
-    rt: &HostRuntime,
-    i: usize,
-    format: &Format<K>,
-    store: &mut S,
-    command: Command,
-) -> anyhow::Result<bool> {
-    match command {
-        Command::Show(place) => {
-            say_line(rt, i)?;
-            show(rt, store, place)?;
-        }
-        Command::Put(place, value) => {
-            say_line(rt, i)?;
-            put(rt, store, place, value)?;
-        }
-        Command::Ramp => {
-            say_line(rt, i)?;
-            put_ramp(store);
-            println!(rt; "done")?;
-        }
-        Command::Send(timestamp, field, sequence) => {
-            say_line(rt, i)?;
-            send(rt, format, store, timestamp, field, sequence)?;
-        }
-        command => return Ok(do_anywhere(rt, i, command)?),
-    }
-    Ok(true)
+    Ok(())
 }
 
 /// Shows a sample.
 pub fn show<S: Store>(rt: &HostRuntime, store: &S, place: Place) -> io::Result<()> {
     match store.show(place.plane, place.row, place.column) {
         Ok(value) => println!(rt; "sample {value}"),
-        Err(refusal) => say_refusal(rt, refusal),
+        Err(refusal) => println!(rt; "{}", Refused(refusal)),
     }
 }
 
@@ -87,7 +49,7 @@ pub fn show<S: Store>(rt: &HostRuntime, store: &S, place: Place) -> io::Result<(
 pub fn put<S: Store>(rt: &HostRuntime, store: &mut S, place: Place, value: u16) -> io::Result<()> {
     match store.put(place.plane, place.row, place.column, value) {
         Ok(()) => println!(rt; "done"),
-        Err(refusal) => say_refusal(rt, refusal),
+        Err(refusal) => println!(rt; "{}", Refused(refusal)),
     }
 }
 
@@ -118,98 +80,51 @@ fn send<K: GroupKind + Copy, S: Store>(
     rt: &HostRuntime,
     format: &Format<K>,
     store: &mut S,
-    timestamp: u32,
-    field: u8,
+    part: PartName,
     sequence: u32,
 ) -> anyhow::Result<()> {
-    match Sending::open(*format, timestamp, field, sequence) {
-        Ok(sending) => {
-            let part = Part {
-                format: *format,
-                timestamp,
-                field,
-            };
-            if format.scan == 0 {
-                print_packets(rt, sending, store, part.groups(), &mut [0; MOST_OCTETS])
-            } else {
-                let layer = Field::new(store, field);
-                print_packets(rt, sending, &layer, part.groups(), &mut [0; MOST_OCTETS])
-            }
+    let part = part.of(format);
+    let print = |packet: &[u8]| -> anyhow::Result<()> {
+        let hex = hex::encode_upper(rt.alloc(), packet)?;
+        Ok(println!(rt; "packet {hex}")?)
+    };
+    let sent = if format.scan == Scan::Progressive as u8 {
+        draw_all(&part, store, sequence, print)?
+    } else {
+        draw_all(&part, &Field::new(store, part.field), sequence, print)?
+    };
+    match sent {
+        Ok(sent) => {
+            let next = sent.next_sequence();
+            println!(rt; "sent, next sequence number {next}")?;
         }
-        Err(refusal) => {
-            say_refusal(rt, refusal)?;
-            Ok(())
-        }
-    }
-}
-
-// Draws the packets of a part, at most so many, and writes them in hex.
-fn print_packets<K: GroupKind + Copy, S: Store>(
-    rt: &HostRuntime,
-    sending: Sending<K>,
-    store: &S,
-    most: usize,
-    buffer: &mut [u8],
-) -> anyhow::Result<()> {
-    let mut sending = sending;
-    for _ in 0..most {
-        match sending.next(store, buffer) {
-            Step::More(rest, length) => {
-                print_drawn(rt, buffer, length)?;
-                sending = rest;
-            }
-            Step::Last(sent, length) => {
-                print_drawn(rt, buffer, length)?;
-                let next = sent.next_sequence();
-                println!(rt; "sent, next sequence number {next}")?;
-                return Ok(());
-            }
-            Step::Refused(_, refusal) => {
-                say_refusal(rt, refusal)?;
-                return Ok(());
-            }
-        }
+        Err(refusal) => println!(rt; "{}", Refused(refusal))?,
     }
     Ok(())
-}
-
-fn print_drawn(rt: &HostRuntime, buffer: &[u8], length: usize) -> io::Result<()> {
-    print!(rt; "packet ")?;
-    print_hex(rt, &buffer[..length.min(buffer.len())])?;
-    println!(rt; "")
 }
 
 // Opens a part, and does its commands.
 fn open_part<K: GroupKind + Copy, S: Store>(
     rt: &HostRuntime,
-    lines: &[Vec<u8>],
-    i: usize,
+    script: &mut Script,
     format: &Format<K>,
     store: &mut S,
-    timestamp: u32,
-    field: u8,
-) -> anyhow::Result<usize>
-    ensures { IfOk result (λ n. i ≤ n) }
+    part: PartName,
+) -> anyhow::Result<()>
+    ensures { length script.new.rest.now ≤ length script.old.rest.now }
 {
-    let part = Part {
-        format: *format,
-        timestamp,
-        field,
-    };
-    let mut map = vec![in rt.alloc(); 0u8; part.map_octets()]?;
-    match Idle.open(*format, timestamp, field, map.as_mut_slice()) {
+    let octets = part.of(format).map_octets();
+    let mut map = vec![in rt.alloc(); 0u8; octets]?;
+    let map = map.as_mut_slice();
+    match Idle.open(*format, part.timestamp, part.field, map) {
         Ok(opened) => {
             println!(rt; "opened")?;
-            if format.scan == 0 {
-                with_part(rt, lines, i, opened, store, map.as_mut_slice())
+            if format.scan == Scan::Progressive as u8 {
+                with_part(rt, script, opened, store, map)
             } else {
-                let mut layer = Field::new(store, field);
-                with_part(rt, lines, i, opened, &mut layer, map.as_mut_slice())
+                with_part(rt, script, opened, &mut Field::new(store, part.field), map)
             }
         }
-        Err((_, refusal)) => {
-            say_refusal(rt, refusal)?;
-            Ok(i)
-        }
+        Err((_, refusal)) => Ok(println!(rt; "{}", Refused(refusal))?),
     }
 }

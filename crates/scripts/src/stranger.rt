@@ -55,7 +55,7 @@ pub fn packet_of<K: GroupKind + Copy>(
 ) -> Result<Vec<u8>, AllocError> {
     let mut packet = Vec::new(heap);
     push_rtp_header(&mut packet, part, manner)?;
-    push_number(&mut packet, manner.sequence >> 16)?;
+    push_number(&mut packet, (manner.sequence >> 16) as u16)?;
     let count = pieces.len();
     for (i, piece) in pieces.iter().enumerate() {
         push_srd_header(&mut packet, part, *piece, i.saturating_add(1) < count)?;
@@ -63,9 +63,9 @@ pub fn packet_of<K: GroupKind + Copy>(
     for piece in pieces {
         push_groups(&mut packet, part, groups, *piece)?;
     }
-    for i in 0..manner.padding {
-        let last = i.saturating_add(1) == manner.padding;
-        packet.push(if last { manner.padding } else { 0 })?;
+    // The last octet of the padding counts it.
+    for rest in (0..manner.padding).rev() {
+        packet.push(if rest == 0 { manner.padding } else { 0 })?;
     }
     Ok(packet)
 }
@@ -80,7 +80,7 @@ fn push_rtp_header<K: GroupKind + Copy>(
     packet.push(128 | padded | extended | manner.sources & 15)?;
     let marker = if manner.marker { 128 } else { 0 };
     packet.push(marker | part.format.payload_type)?;
-    push_number(packet, manner.sequence)?;
+    push_number(packet, (manner.sequence & 0xffff) as u16)?;
     packet.extend_from_slice(&part.timestamp.to_be_bytes())?;
     packet.extend_from_slice(&part.format.ssrc.to_be_bytes())?;
     for source in 0..manner.sources & 15 {
@@ -88,7 +88,7 @@ fn push_rtp_header<K: GroupKind + Copy>(
     }
     if manner.extension_words > 0 {
         push_number(packet, 0xbede)?;
-        push_number(packet, u32::from(manner.extension_words))?;
+        push_number(packet, u16::from(manner.extension_words))?;
         for _ in 0..manner.extension_words {
             packet.extend_from_slice(&[0, 0, 0, 0])?;
         }
@@ -105,11 +105,11 @@ fn push_srd_header<K: GroupKind + Copy>(
     let length = piece.groups.wrapping_mul(part.format.group_octets());
     let row = piece.unit_row.wrapping_mul(part.format.kind.group_rows());
     let column = piece.first.wrapping_mul(part.format.group_columns());
-    let field = u32::from(part.field & 1) << 15;
-    let continued: u32 = if more { 32768 } else { 0 };
-    push_number(packet, (length & 0xffff) as u32)?;
-    push_number(packet, field | (row & 0x7fff) as u32)?;
-    push_number(packet, continued | (column & 0x7fff) as u32)
+    let field = u16::from(part.field & 1) << 15;
+    let continued: u16 = if more { 1 << 15 } else { 0 };
+    push_number(packet, (length & 0xffff) as u16)?;
+    push_number(packet, field | (row & 0x7fff) as u16)?;
+    push_number(packet, continued | (column & 0x7fff) as u16)
 }
 
 // The octets of a piece, from those of all groups.
@@ -132,9 +132,6 @@ fn push_groups<K: GroupKind + Copy>(
     packet.extend_from_slice(&groups[start..start + length])
 }
 
-// Two octets: the low 16 bits of a number.
-fn push_number(packet: &mut Vec<u8>, number: u32) -> Result<(), AllocError> {
-    packet.push((number >> 8 & 0xff) as u8)?;
-    packet.push((number & 0xff) as u8)?;
-    Ok(())
+fn push_number(packet: &mut Vec<u8>, number: u16) -> Result<(), AllocError> {
+    packet.extend_from_slice(&number.to_be_bytes())
 }

@@ -1,159 +1,76 @@
 //! What is done with a stream: its format line is read, its format made for the kind of its sampling, and its commands done.
 
-ghost use Rattle.std.specs.Prelude.{◌≤◌, IfOk};
+ghost use Rattle.std.specs.Prelude.{◌≤◌, length};
 
-use crate::command::{Command, Layout};
-use crate::geometry::print_format;
+use crate::command::{Command, Layout, Stream};
 use crate::reading::print_packet;
-use crate::script::{command_at, do_anywhere, say_line, say_refusal};
+use crate::script::Script;
 use crate::store::with_store;
 use fmtp::Listing;
 use formats::{Format, SampledKind};
-use kinds::{GroupKind, Key, Rgb, Xyz, Ycc420, Ycc422, Ycc444};
+use kinds::GroupKind;
 use packed::Packed;
-use records::{Record, Sampling};
+use reports::{FormatTask, Geometry, Refused, with_format};
 use stores::Planar;
 
-/// Says what a format line announces, and does the commands of the stream, from line i on; says which line is next.
-pub fn with_stream(
-    rt: &HostRuntime,
-    lines: &[Vec<u8>],
-    i: usize,
-    payload_type: u8,
-    ssrc: u32,
-    line: &str,
-) -> anyhow::Result<usize>
-    ensures { IfOk result (λ n. i ≤ n) }
+/// Says what a stream's format line announces, and does the commands of the stream.
+pub fn with_stream(rt: &HostRuntime, script: &mut Script, stream: Stream) -> anyhow::Result<()>
+    ensures { length script.new.rest.now ≤ length script.old.rest.now }
 {
-    let record = match fmtp::read(line.as_bytes()) {
+    let record = match fmtp::read(stream.line.as_bytes()) {
         Ok(record) => record,
-        Err(refusal) => {
-            say_refusal(rt, refusal)?;
-            return Ok(i);
-        }
+        Err(refusal) => return Ok(println!(rt; "{}", Refused(refusal))?),
     };
-    let listing = Listing(&record);
-    print!(rt; "{listing}")?;
-    let stream = Stream {
-        record,
-        payload_type,
-        ssrc,
-    };
-    with_sampling(rt, lines, i, &stream)
-}
-
-// What a format line announces, and how the stream is told apart from others.
-#[derive(Clone, Copy)]
-struct Stream {
-    record: Record,
-    payload_type: u8,
-    ssrc: u32,
-}
-
-fn with_sampling(
-    rt: &HostRuntime,
-    lines: &[Vec<u8>],
-    i: usize,
-    stream: &Stream,
-) -> anyhow::Result<usize>
-    ensures { IfOk result (λ n. i ≤ n) }
-{
-    match stream.record.sampling {
-        Sampling::YCbCr444 | Sampling::ClYCbCr444 | Sampling::ICtCp444 => {
-            with_kind(rt, lines, i, stream, Ycc444)
-        }
-        Sampling::YCbCr422 | Sampling::ClYCbCr422 | Sampling::ICtCp422 => {
-            with_kind(rt, lines, i, stream, Ycc422)
-        }
-        Sampling::YCbCr420 | Sampling::ClYCbCr420 | Sampling::ICtCp420 => {
-            with_kind(rt, lines, i, stream, Ycc420)
-        }
-        Sampling::Rgb => with_kind(rt, lines, i, stream, Rgb),
-        Sampling::Xyz => with_kind(rt, lines, i, stream, Xyz),
-        Sampling::Key => with_kind(rt, lines, i, stream, Key),
+    print!(rt; "{}", Listing(&record))?;
+    let mut commands = Commands { rt, script };
+    match with_format(&record, stream.payload_type, stream.ssrc, &mut commands) {
+        Ok(done) => done,
+        Err(refusal) => Ok(println!(rt; "{}", Refused(refusal))?),
     }
 }
 
-fn with_kind<K: SampledKind + Copy>(
-    rt: &HostRuntime,
-    lines: &[Vec<u8>],
-    i: usize,
-    stream: &Stream,
-    kind: K,
-) -> anyhow::Result<usize>
-    ensures { IfOk result (λ n. i ≤ n) }
-{
-    match Format::announced(kind, &stream.record, stream.payload_type, stream.ssrc) {
-        Ok(format) => {
-            print_format(rt, &format)?;
-            with_format(rt, lines, i, &format)
-        }
-        Err(refusal) => {
-            say_refusal(rt, refusal)?;
-            Ok(i)
-        }
+// The commands of a script that hang on a stream.
+#[derive(Drop)]
+struct Commands<'a, 'b> {
+    rt: &'a HostRuntime,
+    script: &'a mut Script<'b>,
+}
+
+impl FormatTask for Commands<'_, '_> {
+    type Out = anyhow::Result<()>;
+
+    ghost Leaves = { λ before _ _ after. length after.script.now.rest.now ≤ length before.script.now.rest.now };
+
+    fn run<K: SampledKind + Copy>(&mut self, format: &Format<K>) -> anyhow::Result<()> {
+        print!(self.rt; "{}", Geometry(format))?;
+        do_commands(self.rt, self.script, format)
     }
 }
 
 // Does the commands that want a format and no store.
-fn with_format<K: GroupKind + Copy>(
+fn do_commands<K: GroupKind + Copy>(
     rt: &HostRuntime,
-    lines: &[Vec<u8>],
-    start: usize,
+    script: &mut Script,
     format: &Format<K>,
-) -> anyhow::Result<usize>
-    ensures { IfOk result (λ n. start ≤ n) }
+) -> anyhow::Result<()>
+    ensures { length script.new.rest.now ≤ length script.old.rest.now }
 {
-    let mut i = start;
-    while i < lines.len() {
-        if do_anywhere(rt, i, command_at(lines, i))? {
-            i += 1;
-            continue;
-        }
-        match command_at(lines, i) {
-            Command::Read(timestamp, field, hex) => {
-                say_line(rt, i)?;
-                print_packet(rt, format, timestamp, field, hex)?;
-                i += 1;
-            }
+    while let Some(command) = script.next_if(rt, Command::is_for_stream)? {
+        match command {
+            Command::Read(part, hex) => print_packet(rt, &part.of(format), hex)?,
             Command::Store(Layout::Planar) => {
-                say_line(rt, i)?;
-                i = with_planar(rt, lines, i + 1, format)?;
+                let mut words = vec![in rt.alloc(); 0u16; format.planar_words()]?;
+                println!(rt; "done")?;
+                let mut store = Planar::new(format, words.as_mut_slice());
+                with_store(rt, script, format, &mut store)?;
             }
-            Command::Store(Layout::Packed) => {
-                say_line(rt, i)?;
-                i = with_packed(rt, lines, i + 1, format)?;
+            _ => {
+                let mut octets = vec![in rt.alloc(); 0u8; format.packed_octets()]?;
+                println!(rt; "done")?;
+                let mut store = Packed::new(format, octets.as_mut_slice());
+                with_store(rt, script, format, &mut store)?;
             }
-            _ => return Ok(i),
         }
     }
-    Ok(i)
-}
-
-fn with_planar<K: GroupKind + Copy>(
-    rt: &HostRuntime,
-    lines: &[Vec<u8>],
-    i: usize,
-    format: &Format<K>,
-) -> anyhow::Result<usize>
-    ensures { IfOk result (λ n. i ≤ n) }
-{
-    let mut words = vec![in rt.alloc(); 0u16; format.planar_words()]?;
-    println!(rt; "done")?;
-    let mut store = Planar::new(format, words.as_mut_slice());
-    with_store(rt, lines, i, format, &mut store)
-}
-
-fn with_packed<K: GroupKind + Copy>(
-    rt: &HostRuntime,
-    lines: &[Vec<u8>],
-    i: usize,
-    format: &Format<K>,
-) -> anyhow::Result<usize>
-    ensures { IfOk result (λ n. i ≤ n) }
-{
-    let mut octets = vec![in rt.alloc(); 0u8; format.packed_octets()]?;
-    println!(rt; "done")?;
-    let mut store = Packed::new(format, octets.as_mut_slice());
-    with_store(rt, lines, i, format, &mut store)
+    Ok(())
 }

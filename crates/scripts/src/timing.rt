@@ -1,14 +1,14 @@
 //! How long a frame of 1920 x 1080 at 4:2:2 and 10 bits takes, sent and taken, over planar and over packed memory, beside a plain copy of
 //! the frame's memory. The format is read from a line, so that nothing of it is known when this is compiled.
 
-use crate::store::{MOST_OCTETS, put_ramp};
+use crate::command::PartName;
+use crate::sending::draw_all;
+use crate::store::put_ramp;
 use anyhow::anyhow;
-use fmtp;
 use formats::{Format, Part};
 use kinds::{GroupKind, Ycc422};
 use packed::Packed;
 use receiver::Idle;
-use sender::{Sending, Step};
 use std::time::{Duration, Instant};
 use stores::{Planar, Store};
 
@@ -30,31 +30,31 @@ pub fn time_frames(rt: &HostRuntime) -> anyhow::Result<()> {
 }
 
 fn time_planar<K: GroupKind + Copy>(rt: &HostRuntime, format: &Format<K>) -> anyhow::Result<()> {
-    let mut words = vec![in rt.alloc(); 0u16; format.planar_words()]?;
-    let mut target = vec![in rt.alloc(); 0u16; format.planar_words()]?;
-    let start = Instant::now(rt)?;
-    for _ in 0..ROUNDS {
-        target.as_mut_slice().copy_from_slice(&words);
-    }
-    let copy = start.elapsed(rt)?;
     println!(rt; "planar memory")?;
+    let mut words = vec![in rt.alloc(); 0u16; format.planar_words()]?;
+    let copy = time_copy(rt, &words)?;
     print_time(rt, "copy", format, copy, copy)?;
     let mut store = Planar::new(format, words.as_mut_slice());
     time_store(rt, format, &mut store, copy)
 }
 
 fn time_packed<K: GroupKind + Copy>(rt: &HostRuntime, format: &Format<K>) -> anyhow::Result<()> {
-    let mut octets = vec![in rt.alloc(); 0u8; format.packed_octets()]?;
-    let mut target = vec![in rt.alloc(); 0u8; format.packed_octets()]?;
-    let start = Instant::now(rt)?;
-    for _ in 0..ROUNDS {
-        target.as_mut_slice().copy_from_slice(&octets);
-    }
-    let copy = start.elapsed(rt)?;
     println!(rt; "packed memory")?;
+    let mut octets = vec![in rt.alloc(); 0u8; format.packed_octets()]?;
+    let copy = time_copy(rt, &octets)?;
     print_time(rt, "copy", format, copy, copy)?;
     let mut store = Packed::new(format, octets.as_mut_slice());
     time_store(rt, format, &mut store, copy)
+}
+
+// How long plain copies of a memory take.
+fn time_copy<T: Copy>(rt: &HostRuntime, memory: &[T]) -> anyhow::Result<Duration> {
+    let mut target = memory.to_vec(rt.alloc())?;
+    let start = Instant::now(rt)?;
+    for _ in 0..ROUNDS {
+        target.as_mut_slice().copy_from_slice(memory);
+    }
+    Ok(start.elapsed(rt)?)
 }
 
 fn time_store<K: GroupKind + Copy, S: Store>(
@@ -64,17 +64,20 @@ fn time_store<K: GroupKind + Copy, S: Store>(
     copy: Duration,
 ) -> anyhow::Result<()> {
     put_ramp(store);
-    let part = Part {
-        format: *format,
+    let part = PartName {
         timestamp: 1,
         field: 0,
-    };
+    }
+    .of(format);
     let mut packets = Vec::new(rt.alloc());
-    draw(&part, store, &mut packets)?;
+    draw(&part, store, |packet| {
+        Ok(packets.push(packet.to_vec(rt.alloc())?)?)
+    })?;
+    let mut octets = Vec::new(rt.alloc());
     let start = Instant::now(rt)?;
     for _ in 0..ROUNDS {
-        packets.clear();
-        draw(&part, store, &mut packets)?;
+        octets.clear();
+        draw(&part, store, |packet| Ok(octets.extend_from_slice(packet)?))?;
     }
     print_time(rt, "send", format, start.elapsed(rt)?, copy)?;
     let mut map = vec![in rt.alloc(); 0u8; part.map_octets()]?;
@@ -85,48 +88,28 @@ fn time_store<K: GroupKind + Copy, S: Store>(
     print_time(rt, "take", format, start.elapsed(rt)?, copy)
 }
 
-// Octets of a packet at the front of a buffer.
-#[derive(Clone, Copy)]
-struct Drawn {
-    octets: [u8; MOST_OCTETS],
-    length: usize,
-}
-
-fn draw<K: GroupKind + Copy, S: Store>(
+fn draw<K: GroupKind + Copy, S: Store, F: FnMut(&[u8]) -> anyhow::Result<()>>(
     part: &Part<K>,
     store: &S,
-    packets: &mut Vec<Drawn>,
-) -> anyhow::Result<()> {
-    let Ok(first) = Sending::open(part.format, part.timestamp, part.field, 0) else {
-        return Ok(());
-    };
-    let mut sending = first;
-    for _ in 0..part.groups() {
-        let mut octets = [0; MOST_OCTETS];
-        match sending.next(store, &mut octets) {
-            Step::More(rest, length) => {
-                packets.push(Drawn { octets, length })?;
-                sending = rest;
-            }
-            Step::Last(_, length) => {
-                packets.push(Drawn { octets, length })?;
-                return Ok(());
-            }
-            Step::Refused(_, _) => return Ok(()),
-        }
+    give: F,
+) -> anyhow::Result<()>
+    requires { F.IsAlwaysCallable give }
+{
+    match draw_all(part, store, 0, give)? {
+        Ok(_) => Ok(()),
+        Err(refusal) => Err(anyhow!("{refusal}")),
     }
-    Ok(())
 }
 
 fn take<K: GroupKind + Copy, S: Store>(
     part: &Part<K>,
-    packets: &[Drawn],
+    packets: &[Vec<u8>],
     store: &mut S,
     map: &mut [u8],
 ) {
     if let Ok(opened) = Idle.open(part.format, part.timestamp, part.field, map) {
         for packet in packets {
-            let _ = opened.take(&packet.octets[..packet.length.min(MOST_OCTETS)], store, map);
+            let _ = opened.take(packet, store, map);
         }
         let _idle = opened.close();
     }
