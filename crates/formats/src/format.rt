@@ -9,19 +9,6 @@ use crate::sizes::{divided_up, octets_of};
 use kinds::GroupKind;
 use refusals::Refusal;
 
-#[derive(Clone, Copy, Debug, PartialEq, Eq)]
-pub enum Scan {
-    Progressive = 0,
-    Interlaced = 1,
-    Segmented = 2,
-}
-
-#[derive(Clone, Copy, Debug, PartialEq, Eq)]
-pub enum Mode {
-    General = 1,
-    Block = 2,
-}
-
 /// A kind of group, and plain numbers. Each call that is given a format tests it again.
 #[derive(Clone, Copy)]
 pub struct Format<K> {

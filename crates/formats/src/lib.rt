@@ -9,5 +9,5 @@ mod part;
 mod sizes;
 
 pub use announced::SampledKind;
-pub use format::{Format, Mode, Scan};
+pub use format::Format;
 pub use part::Part;

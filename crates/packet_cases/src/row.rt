@@ -51,8 +51,8 @@ fn carries(packet: &Packet, due: &[u32]) -> bool {
     *marker == u32::from(packet.marker())
         && *count as usize == packet.segments()
         && segments.len() == 5 * packet.segments()
-        && (0..packet.segments())
-            .filter_map(|i| packet.segment(i))
+        && packet
+            .iter()
             .zip(segments.chunks_exact(5))
             .all(|(segment, numbers)| is_due(&segment, numbers))
         && packet.segment(packet.segments()).is_none()

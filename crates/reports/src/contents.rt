@@ -13,7 +13,7 @@ impl fmt::Display for Contents<'_> {
         let count = packet.segments();
         let marker = if packet.marker() { "set" } else { "clear" };
         writeln!(f, "packet         segments {count}, marker {marker}")?;
-        for (i, segment) in (0..count).filter_map(|i| packet.segment(i)).enumerate() {
+        for (i, segment) in packet.iter().enumerate() {
             let Segment {
                 octets,
                 unit_row,

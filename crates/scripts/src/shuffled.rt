@@ -94,7 +94,7 @@ fn groups_of<K: GroupKind + Copy>(
     let mut groups = Vec::new(heap);
     for packet in sent {
         if let Ok(packet) = Packet::read(packet, part) {
-            for segment in (0..packet.segments()).filter_map(|i| packet.segment(i)) {
+            for segment in packet.iter() {
                 groups.extend_from_slice(segment.octets)?;
             }
         }
