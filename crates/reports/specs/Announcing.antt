@@ -43,7 +43,7 @@ abbrev pub announced_for : Record → ℕ → ℕ → Result Format ℕ
 announced_for r type source = announced (λ _. true) (kind_for r.sampling) r type source
 
 -- the task was done with the format, or was not begun for this refusal and stays
-abbrev pub Announces : {T O : Type 0} → Result Format ℕ → (T → Format → O → T → Type 0) → T → Result O Refusal → T → Type 0
+abbrev pub Announces : {T F O : Type 0} → Result F ℕ → (T → F → O → T → Type 0) → T → Result O Refusal → T → Type 0
 Announces (Ok f) leaves before (Ok out) after = leaves before f out after
 Announces (Err n) leaves before (Err e) after = (number_of e ≡ n) × (after ≡ before)
 Announces (Ok f) leaves before (Err e) after = ⊥

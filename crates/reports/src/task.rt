@@ -1,6 +1,6 @@
 //! From a record to the format of its sampling's kind.
 
-ghost use Rattle.std.specs.Prelude.{◌≡◌};
+ghost use Rattle.std.specs.Prelude.{◌≡◌, IfOk};
 ghost use Rattle.theory.specs.Formats as formats;
 ghost use Rattle.formats.specs.Announced.{announced};
 ghost use Rattle.formats.specs.Meaning.{format_of};
@@ -29,7 +29,8 @@ pub fn with_format<T: FormatTask>(
     ssrc: u32,
     task: &mut T,
 ) -> Result<T::Out, Refusal>
-    ensures { Announces (announced_for «record».now payload_type ssrc) T.FormatTask.Leaves task.old result task.new }
+    ensures which { Announces (announced_for «record».now payload_type ssrc) T.FormatTask.Leaves task.old result task.new }
+    ensures done { IfOk result (λ out. (format : formats.Format) × T.FormatTask.Leaves task.old format out task.new) }
 {
     match record.sampling {
         Sampling::YCbCr444 | Sampling::ClYCbCr444 | Sampling::ICtCp444 => {
@@ -54,7 +55,8 @@ fn with_kind<T: FormatTask, K: SampledKind + Copy>(
     task: &mut T,
     kind: K,
 ) -> Result<T::Out, Refusal>
-    ensures { Announces (announced K.SampledKind.served (K.GroupKind.kind kind) «record».now payload_type ssrc) T.FormatTask.Leaves task.old result task.new }
+    ensures which { Announces (announced K.SampledKind.served (K.GroupKind.kind kind) «record».now payload_type ssrc) T.FormatTask.Leaves task.old result task.new }
+    ensures done { IfOk result (λ out. (format : formats.Format) × T.FormatTask.Leaves task.old format out task.new) }
 {
     let format = Format::announced(kind, record, payload_type, ssrc)?;
     Ok(task.run(&format))

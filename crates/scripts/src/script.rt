@@ -9,7 +9,7 @@ use crate::timing::time_frames;
 use std::{io, str};
 
 /// The lines of a script that are still to be done, and how many are done.
-#[derive(Drop)]
+#[derive(Clone, Copy)]
 pub struct Script<'a> {
     rest: &'a [Vec<u8>],
     done: usize,
@@ -63,7 +63,7 @@ fn command_of(line: &[u8]) -> Result<Option<Command<'_>>, &'static str> {
 }
 
 /// Does the commands of a script.
-pub fn run_script(rt: &HostRuntime, script: &mut Script) -> anyhow::Result<()> {
+pub fn run_script<'a>(rt: &'a HostRuntime, script: &mut Script<'a>) -> anyhow::Result<()> {
     while let Some(command) = script.next_if(rt, |_| true)? {
         match command {
             Command::Demo => demonstrate(rt)?,

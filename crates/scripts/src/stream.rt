@@ -14,7 +14,11 @@ use reports::{FormatTask, Geometry, Refused, with_format};
 use stores::Planar;
 
 /// Says what a stream's format line announces, and does the commands of the stream.
-pub fn with_stream(rt: &HostRuntime, script: &mut Script, stream: Stream) -> anyhow::Result<()>
+pub fn with_stream<'a>(
+    rt: &'a HostRuntime,
+    script: &mut Script<'a>,
+    stream: Stream,
+) -> anyhow::Result<()>
     ensures { length script.new.rest.now ≤ length script.old.rest.now }
 {
     let record = match fmtp::read(stream.line.as_bytes()) {
@@ -22,8 +26,13 @@ pub fn with_stream(rt: &HostRuntime, script: &mut Script, stream: Stream) -> any
         Err(refusal) => return Ok(println!(rt; "{}", Refused(refusal))?),
     };
     print!(rt; "{}", Listing(&record))?;
-    let mut commands = Commands { rt, script };
-    match with_format(&record, stream.payload_type, stream.ssrc, &mut commands) {
+    let mut commands = Commands {
+        rt,
+        script: *script,
+    };
+    let done = with_format(&record, stream.payload_type, stream.ssrc, &mut commands);
+    *script = commands.script;
+    match done {
         Ok(done) => done,
         Err(refusal) => Ok(println!(rt; "{}", Refused(refusal))?),
     }
@@ -31,19 +40,19 @@ pub fn with_stream(rt: &HostRuntime, script: &mut Script, stream: Stream) -> any
 
 // The commands of a script that hang on a stream.
 #[derive(Drop)]
-struct Commands<'a, 'b> {
+struct Commands<'a> {
     rt: &'a HostRuntime,
-    script: &'a mut Script<'b>,
+    script: Script<'a>,
 }
 
-impl FormatTask for Commands<'_, '_> {
+impl FormatTask for Commands<'_> {
     type Out = anyhow::Result<()>;
 
-    ghost Leaves = { λ before _ _ after. length after.script.now.rest.now ≤ length before.script.now.rest.now };
+    ghost Leaves = { λ before _ _ after. length after.script.rest.now ≤ length before.script.rest.now };
 
     fn run<K: SampledKind + Copy>(&mut self, format: &Format<K>) -> anyhow::Result<()> {
         print!(self.rt; "{}", Geometry(format))?;
-        do_commands(self.rt, self.script, format)
+        do_commands(self.rt, &mut self.script, format)
     }
 }
 
