@@ -33,7 +33,7 @@ pub enum Depth {
 }
 
 /// The system of colors that the samples are measured in.
-#[derive(Clone, Copy)]
+#[derive(Clone, Copy, Debug, PartialEq, Eq)]
 pub enum Colorimetry {
     Bt601,
     Bt709,
@@ -54,14 +54,14 @@ pub enum PackingMode {
 }
 
 /// The edition of ST 2110-20 that the sender follows.
-#[derive(Clone, Copy)]
+#[derive(Clone, Copy, Debug, PartialEq, Eq)]
 pub enum Edition {
     Of2017,
     Of2022,
 }
 
 /// The part of the numbers that sample values use.
-#[derive(Clone, Copy)]
+#[derive(Clone, Copy, Debug, PartialEq, Eq)]
 pub enum Range {
     Narrow,
     Full,
@@ -69,7 +69,7 @@ pub enum Range {
 }
 
 /// The transfer characteristic: how sample values stand for light.
-#[derive(Clone, Copy)]
+#[derive(Clone, Copy, Debug, PartialEq, Eq)]
 pub enum Transfer {
     Sdr,
     Pq,
