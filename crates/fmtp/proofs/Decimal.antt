@@ -1,5 +1,5 @@
 -- What `parse` reads of decimal digits, and numbers without a common divisor. Assumes nothing.
-use Rattle.std.proofs.Common.{◌≡◌, ℕ, ◌+◌, ◌-◌, ◌*◌, ◌%◌, ◌<◌, ◌≤◌, ◌^◌, min, Bool, true, false, cond, not, ◌&&◌, eqb, leb, List, [], ◌∷◌, map, length, get_or, Some, None, Ok, Err, Result, MatchResult, option_and_then, Bor, IsUtf8, sym, refl, ap, ◌∙◌, subst, ⊎_elim, arith, rules}
+use Rattle.std.proofs.Common.{◌≡◌, ℕ, ◌+◌, ◌-◌, ◌*◌, ◌%◌, ◌<◌, ◌≤◌, ◌^◌, min, Bool, true, false, cond, not, ◌&&◌, eqb, leb, List, [], ◌∷◌, map, length, get_or, Some, None, Ok, Option, Err, Result, MatchResult, option_and_then, Bor, IsUtf8, sym, refl, ap, ◌∙◌, subst, ⊎_elim, arith, rules}
 use Rattle.std.specs.Bool.{then_some}
 use Rattle.std.specs.Int.{◌∣◌, IsGcd}
 use Rattle.std.specs.Int.Digits.{number_from_digits_after}
@@ -31,7 +31,7 @@ decimal_by : (limit : ℕ) (text : List ℕ) (none zero digits fits : Bool) → 
 decimal_by limit text none zero digits fits a b c d = λ i. cond (not (a i) && not (b i) && (c i && d i)) (Some (written text)) None
 
 -- what `parse` reads of digits
-pub parsed : {E : Type 0} (limit : ℕ) (text : List ℕ) → limit < 2 ^ 32 → eqb (get_or text 0 0) 0x30 ≡ false → list_all is_ascii_digit text ≡ true → (r : Result ℕ E) → ParsesUnsigned 32 10 text r
+parsed : {E : Type 0} (limit : ℕ) (text : List ℕ) → limit < 2 ^ 32 → eqb (get_or text 0 0) 0x30 ≡ false → list_all is_ascii_digit text ≡ true → (r : Result ℕ E) → ParsesUnsigned 32 10 text r
     → decimal_of limit text ≡ option_and_then (λ n. then_some (leb n limit) n) (result_ok r)
 parsed {E = E} limit text small lead digits (Ok n) h =
     let read = parse_digits own {E = E} 32 text (Ok n) h digits in
@@ -52,12 +52,12 @@ parsed {E = E} limit text small lead digits (Err e) h =
     (cases_lt 0 (length text))
 
 -- a text with no zero in front
-pub no_zero : (text : List ℕ) → starts_with eqb text (0x30 ∷ []) ≡ false → eqb (get_or text 0 0) 0x30 ≡ false
+no_zero : (text : List ℕ) → starts_with eqb text (0x30 ∷ []) ≡ false → eqb (get_or text 0 0) 0x30 ≡ false
 no_zero [] h = refl
 no_zero (c ∷ cs) h = ne_eqb c 0x30 (λ e. false≢true (sym h ∙ ap (λ d. eqb 0x30 d && true) e))
 
 -- digits are text
-pub digits_are_text : (bs : List ℕ) → list_all is_ascii_digit bs ≡ true → IsUtf8 bs
+digits_are_text : (bs : List ℕ) → list_all is_ascii_digit bs ≡ true → IsUtf8 bs
 digits_are_text bs h = IsUtf8-from_ascii bs ascii
   where
     ascii : (i : ℕ) → get_or bs i 0 < 128
@@ -67,14 +67,26 @@ digits_are_text bs h = IsUtf8-from_ascii bs ascii
         (λ past. omega (arith, get_or_past bs i 0 past))
         (cases_lt i (length bs))
 
-module _ {E : Type 0} (bs : List ℕ) (W : E → Type 0) where
-  pub is_no_text : (r : Result (Bor (List ℕ)) E) → MatchResult r (λ s. (s.now ≡ bs) × IsUtf8 bs) (λ e. ¬ (IsUtf8 bs) × W e) → result_ok r ≡ None → ¬ (IsUtf8 bs)
-  is_no_text (Ok s) h is = cc
-  is_no_text (Err e) h is = h.0
+-- digits, read as text and then as a number
+module _ {E : Type 0} (W : E → Type 0) (text : List ℕ) (u : Result (Bor (List ℕ)) E) (cases : MatchResult u (λ s. (s.now ≡ text) × IsUtf8 text) (λ e. ¬ (IsUtf8 text) × W e)) (digits : list_all is_ascii_digit text ≡ true) where
+  pub some_text : result_ok u ≡ None → ⊥
+  some_text = go u cases
+    where
+      go : (u : Result (Bor (List ℕ)) E) → MatchResult u (λ s. (s.now ≡ text) × IsUtf8 text) (λ e. ¬ (IsUtf8 text) × W e) → result_ok u ≡ None → ⊥
+      go (Ok s) h is = cc
+      go (Err e) h is = h.0 (digits_are_text text digits)
 
-  pub is_text : (r : Result (Bor (List ℕ)) E) (s : Bor (List ℕ)) → MatchResult r (λ s. (s.now ≡ bs) × IsUtf8 bs) (λ e. ¬ (IsUtf8 bs) × W e) → result_ok r ≡ Some s → s.now ≡ bs
-  is_text (Ok t) s h e = let same : t ≡ s = cc in sym (ap (λ t. t.now) same) ∙ h.0
-  is_text (Err t) s h e = cc
+  is_text : (s : Bor (List ℕ)) → result_ok u ≡ Some s → s.now ≡ text
+  is_text s = go u cases
+    where
+      go : (u : Result (Bor (List ℕ)) E) → MatchResult u (λ s. (s.now ≡ text) × IsUtf8 text) (λ e. ¬ (IsUtf8 text) × W e) → result_ok u ≡ Some s → s.now ≡ text
+      go (Ok t) h is = let same : t ≡ s = cc in sym (ap (λ t. t.now) same) ∙ h.0
+      go (Err t) h is = cc
+
+  pub read : {F : Type 0} (limit : ℕ) → limit < 2 ^ 32 → starts_with eqb text (0x30 ∷ []) ≡ false → (s : Bor (List ℕ)) → result_ok u ≡ Some s → (r : Result ℕ F) → ParsesUnsigned 32 10 s.now r
+      → (o : Option ℕ) → result_ok r ≡ o → option_and_then (λ n. then_some (leb n limit) n) o ≡ decimal_of limit text
+  read limit small lead s is r h o told =
+      sym (parsed limit text small (no_zero text lead) digits r (subst (λ t. ParsesUnsigned 32 10 t r) (is_text s is) h) ∙ ap (option_and_then (λ n. then_some (leb n limit) n)) told)
 
 -- a number that was read is not 0
 pub decimal_positive : (limit : ℕ) (text : List ℕ) (n : ℕ) → decimal_of limit text ≡ Some n → 0 < n

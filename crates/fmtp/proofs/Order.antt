@@ -1,12 +1,15 @@
 -- The order of the entries, and the unknown ones, do not matter. Assumes nothing.
-use Rattle.std.proofs.Common.{◌≡◌, ℕ, ◌+◌, ◌<◌, ◌≤◌, Bool, true, false, cond, not, ◌&&◌, ltb, List, [], ◌∷◌, is_some, Some, None, Err, Option, find, filter, count_by, sym, refl, ap, ◌∙◌, ⊎_elim, zero-add, arith}
-use Rattle.std.specs.List.{AllByRecursion as AllOf, list_all, list_any}
+use Rattle.std.proofs.Common.{◌≡◌, ℕ, ◌+◌, ◌<◌, ◌≤◌, Bool, true, false, cond, not, ◌&&◌, ltb, List, [], ◌∷◌, length, get_or, take, is_some, Some, None, Err, Option, find, filter, count_by, sym, refl, ap, ◌∙◌, zero-add, arith}
+use Rattle.std.specs.List.{list_all, list_any, position_or_len, slice_get}
+use Rattle.std.specs.Str.{bytes_eq}
 use Rattle.std.specs.List.Sorted.{IsPermutation}
-use Rattle.std.proofs.lemmas.List.Sorted.{sum_by-IsPermutation, All-permutation, IsPermutation-sym}
-use Rattle.std.proofs.ByRecursion.{all_shuffled}
+use Rattle.std.proofs.lemmas.List.Sorted.{sum_by-IsPermutation, All-permutation, Contains-permutation, IsPermutation-sym}
 use Rattle.std.proofs.lemmas.Slice.Eq.{bytes_eq-Decides}
-use Rattle.std.proofs.lemmas.List.Sums.{sum_by-cons, AllPass-from_list_all, list_all-from_AllPass}
-use Rattle.std.proofs.lemmas.Bool.{both_ways, ltb-false, cases_lt, or_parts, cond-true, cond-false}
+use Rattle.std.proofs.lemmas.List.Sums.{sum_by-cons, sum_by-take-drop, sum_by-drop_more, get_or-le-sum_by, position_or_len_is, passes_at_first, AllPass-from_list_all, list_all-from_AllPass}
+use Rattle.std.proofs.lemmas.List.Folds.{find_at, list_any_at}
+use Rattle.std.proofs.lemmas.List.{get_or-take, length-take}
+use Rattle.std.proofs.lemmas.Option.{slice_get_within, slice_get-get_or, get_or_from_slice_get}
+use Rattle.std.proofs.lemmas.Bool.{both_ways, ltb-false, cond-true, cond-false}
 use Rattle.std.proofs.lemmas.Bool.Decides.{same_from_decides}
 use Rattle.fmtp.specs.declared.parameters.Parameter.{Parameter}
 use Rattle.fmtp.specs.declared.parameters.Parameter.TheVariants.{
@@ -30,107 +33,65 @@ use Rattle.fmtp.specs.Parameters.{parameter_text, parameters, parameter_of, perm
 use Rattle.fmtp.specs.Reading.{has_name, entry_in, repeated, record_of, consistent, reading_entries, reading}
 use Rattle.fmtp.specs.Same.{known, Legible, SameParameters}
 
+-- elements at which a fold keeps its value may be left out
+folded_kept : {X Y : Type 0} (F : List X → Y) (h : X → Y → Y) (q : X → Bool) → ((x : X) (xs : List X) → F (x ∷ xs) ≡ h x (F xs)) → ((x : X) (y : Y) → q x ≡ false → h x y ≡ y)
+    → (xs : List X) → F xs ≡ F (filter q xs)
+folded_kept F h q step skip [] = refl
+folded_kept F h q step skip (x ∷ xs) = go (q x) refl (folded_kept F h q step skip xs)
+  where
+    go : (b : Bool) → q x ≡ b → F xs ≡ F (filter q xs) → F (x ∷ xs) ≡ F (cond b (x ∷ filter q xs) (filter q xs))
+    go true e rec = step x xs ∙ ap (h x) rec ∙ sym (step x (filter q xs))
+    go false e rec = step x xs ∙ skip x (F xs) e ∙ rec
+
 module _ {X : Type 0} (p : X → Bool) where
-  count_cons : (x : X) (xs : List X) → count_by p (x ∷ xs) ≡ cond (p x) 1 0 + count_by p xs
-  count_cons = sum_by-cons (λ x. cond (p x) 1 0)
-
-  -- where no element passes
-  find_none : (xs : List X) → count_by p xs ≡ 0 → find p xs ≡ None
-  find_none [] h = refl
-  find_none (x ∷ xs) h = go (p x) (find_none xs) (sym (count_cons x xs) ∙ h)
+  -- where one element passes at most, it is the one that is found
+  only_found : (f : X) (xs : List X) (k : ℕ) → k < length xs → get_or xs k f ≡ f → p f ≡ true → count_by p xs ≤ 1 → find p xs ≡ Some f
+  only_found f xs k within at passes one =
+      find_at p xs
+      ∙ ap (slice_get xs) (position_or_len_is p xs k f (omega arith) before (λ _. ap p at ∙ passes))
+      ∙ slice_get-get_or xs k f within ∙ ap Some at
     where
-      go : (b : Bool) → (count_by p xs ≡ 0 → find p xs ≡ None) → cond b 1 0 + count_by p xs ≡ 0 → cond b (Some x) (find p xs) ≡ None
-      go true rec h = absurd (omega arith)
-      go false rec h = rec (omega arith)
-
-  -- where some element passes
-  find_some : (xs : List X) → 0 < count_by p xs → (x : X) × (find p xs ≡ Some x)
-  find_some [] h = absurd (omega arith)
-  find_some (x ∷ xs) h = go (p x) (find_some xs) (omega (arith, count_cons x xs))
-    where
-      go : (b : Bool) → (0 < count_by p xs → (y : X) × (find p xs ≡ Some y)) → 0 < cond b 1 0 + count_by p xs → (y : X) × (cond b (Some x) (find p xs) ≡ Some y)
-      go true rec h = (x, refl)
-      go false rec h = rec (omega arith)
-
-  -- where only f passes
-  only_none : (f : X) (xs : List X) → count_by p xs ≡ 0 → AllOf (λ x. p x ≡ true → x ≡ f) xs
-  only_none f [] h = tt
-  only_none f (x ∷ xs) h = go (p x) (only_none f xs) (sym (count_cons x xs) ∙ h)
-    where
-      go : (b : Bool) → (count_by p xs ≡ 0 → AllOf (λ x. p x ≡ true → x ≡ f) xs) → cond b 1 0 + count_by p xs ≡ 0 → (b ≡ true → x ≡ f) × AllOf (λ x. p x ≡ true → x ≡ f) xs
-      go true rec h = absurd (omega arith)
-      go false rec h = (λ t. absurd (both_ways false refl t), rec (omega arith))
-
-  only_found : (f : X) (xs : List X) → count_by p xs ≤ 1 → find p xs ≡ Some f → AllOf (λ x. p x ≡ true → x ≡ f) xs
-  only_found f [] h s = tt
-  only_found f (x ∷ xs) h s = go (p x) (only_found f xs) (only_none f xs) (omega (arith, count_cons x xs)) s
-    where
-      go : (b : Bool) → (count_by p xs ≤ 1 → find p xs ≡ Some f → AllOf (λ x. p x ≡ true → x ≡ f) xs) → (count_by p xs ≡ 0 → AllOf (λ x. p x ≡ true → x ≡ f) xs)
-          → cond b 1 0 + count_by p xs ≤ 1 → cond b (Some x) (find p xs) ≡ Some f → (b ≡ true → x ≡ f) × AllOf (λ x. p x ≡ true → x ≡ f) xs
-      go true rec none h s = (λ t. cc, none (omega arith))
-      go false rec none h s = (λ t. absurd (both_ways false refl t), rec (omega arith) s)
-
-  found_only : (f : X) (xs : List X) → 0 < count_by p xs → AllOf (λ x. p x ≡ true → x ≡ f) xs → find p xs ≡ Some f
-  found_only f [] h a = absurd (omega arith)
-  found_only f (x ∷ xs) h a = go (p x) (found_only f xs) (omega (arith, count_cons x xs)) a
-    where
-      go : (b : Bool) → (0 < count_by p xs → AllOf (λ x. p x ≡ true → x ≡ f) xs → find p xs ≡ Some f)
-          → 0 < cond b 1 0 + count_by p xs → (b ≡ true → x ≡ f) × AllOf (λ x. p x ≡ true → x ≡ f) xs → cond b (Some x) (find p xs) ≡ Some f
-      go true rec h a = ap Some (a.0 refl)
-      go false rec h a = rec (omega arith) a.1
-
-  -- elements that do not pass may be left out
-  module _ (q : X → Bool) (within : (x : X) → q x ≡ false → p x ≡ false) where
-    count_kept : (xs : List X) → count_by p xs ≡ count_by p (filter q xs)
-    count_kept [] = refl
-    count_kept (x ∷ xs) = go (q x) refl (count_kept xs)
-      where
-        go : (b : Bool) → q x ≡ b → count_by p xs ≡ count_by p (filter q xs) → count_by p (x ∷ xs) ≡ count_by p (cond b (x ∷ filter q xs) (filter q xs))
-        go true h rec = count_cons x xs ∙ ap (λ n. cond (p x) 1 0 + n) rec ∙ sym (count_cons x (filter q xs))
-        go false h rec = count_cons x xs ∙ (λ i. cond (within x h i) 1 0 + rec i) ∙ zero-add _
-
-    find_kept : (xs : List X) → find p xs ≡ find p (filter q xs)
-    find_kept [] = refl
-    find_kept (x ∷ xs) = go (q x) refl (find_kept xs)
-      where
-        go : (b : Bool) → q x ≡ b → find p xs ≡ find p (filter q xs) → find p (x ∷ xs) ≡ find p (cond b (x ∷ filter q xs) (filter q xs))
-        go true h rec = ap (λ o. cond (p x) (Some x) o) rec
-        go false h rec = (λ i. cond (within x h i) (Some x) (rec i))
-
-  -- elements that pass may be left out of a test of all
-  all_kept : (q : X → Bool) → ((x : X) → q x ≡ false → p x ≡ true) → (xs : List X) → list_all p xs ≡ list_all p (filter q xs)
-  all_kept q passes [] = refl
-  all_kept q passes (x ∷ xs) = go (q x) refl (all_kept q passes xs)
-    where
-      go : (b : Bool) → q x ≡ b → list_all p xs ≡ list_all p (filter q xs) → list_all p (x ∷ xs) ≡ list_all p (cond b (x ∷ filter q xs) (filter q xs))
-      go true h rec = ap (λ b. p x && b) rec
-      go false h rec = λ i. passes x h i && rec i
+      before : (j : ℕ) → j < k → p (get_or xs j f) ≡ false
+      before j l = go (p (get_or xs j f)) refl
+        where
+          go : (b : Bool) → p (get_or xs j f) ≡ b → b ≡ false
+          go false e = refl
+          go true e =
+              let whole = sum_by-take-drop (λ x. cond (p x) 1 0) xs k in
+              let here = sum_by-drop_more (λ x. cond (p x) 1 0) xs k f within in
+              let there = get_or-le-sum_by (λ x. cond (p x) 1 0) (take k xs) j f (omega (arith, length-take k xs)) in
+              let first_is = ap (λ b. cond {A = ℕ} b 1 0) (ap p at ∙ passes) in
+              let second_is = ap (λ b. cond {A = ℕ} b 1 0) (ap p (get_or-take k xs j f l) ∙ e) in
+              absurd (omega (arith, whole, here, there, first_is, second_is))
 
   -- a list in another order
-  module _ (xs ys : List X) (s : IsPermutation xs ys) where
-    count_same : count_by p xs ≡ count_by p ys
-    count_same = sym (sum_by-IsPermutation (λ x. cond (p x) 1 0) xs ys s)
+  count_same : (xs ys : List X) → IsPermutation xs ys → count_by p xs ≡ count_by p ys
+  count_same xs ys s = sym (sum_by-IsPermutation (λ x. cond (p x) 1 0) xs ys s)
 
-    find_same : count_by p xs ≤ 1 → find p xs ≡ find p ys
-    find_same h = ⊎_elim some none (cases_lt 0 (count_by p xs))
-      where
-        some : 0 < count_by p xs → find p xs ≡ find p ys
-        some n =
-            let f = find_some xs n in
-            let only = all_shuffled (λ x. p x ≡ true → x ≡ f.0) xs ys s (only_found f.0 xs h f.1) in
-            f.1 ∙ sym (found_only f.0 ys (omega (arith, count_same)) only)
+  found_too : (xs ys : List X) → IsPermutation xs ys → count_by p xs ≤ 1 → (f : X) → find p xs ≡ Some f → find p ys ≡ Some f
+  found_too xs ys s one f h =
+      let at : slice_get xs (position_or_len p xs) ≡ Some f = sym (find_at p xs) ∙ h in
+      let within = slice_get_within xs (position_or_len p xs) f at in
+      let same = get_or_from_slice_get xs (position_or_len p xs) f f at in
+      let there = Contains-permutation xs ys f s (position_or_len p xs, within, same) in
+      only_found f ys there.0 there.1 there.2 (sym (ap p same) ∙ passes_at_first p xs f within) (omega (arith, count_same xs ys s))
 
-        none : count_by p xs ≤ 0 → find p xs ≡ find p ys
-        none n = find_none xs (omega arith) ∙ sym (find_none ys (omega (arith, count_same)))
+  find_same : (xs ys : List X) → IsPermutation xs ys → count_by p xs ≤ 1 → find p xs ≡ find p ys
+  find_same xs ys s one = go (find p xs) (find p ys) refl refl
+    where
+      go : (a b : Option X) → find p xs ≡ a → find p ys ≡ b → find p xs ≡ find p ys
+      go None None e g = e ∙ sym g
+      go (Some f) b e g = e ∙ sym (found_too xs ys s one f e)
+      go None (Some f) e g = found_too ys xs (IsPermutation-sym xs ys s) (omega (arith, count_same xs ys s)) f g ∙ sym g
 
-    all_same : list_all p xs ≡ list_all p ys
-    all_same = same_from_decides {P = list_all p xs ≡ true} _ _ (λ h. h, λ h. h) (
-      λ h. list_all-from_AllPass p xs (All-permutation (λ x. p x ≡ true) ys xs (IsPermutation-sym xs ys s) (AllPass-from_list_all p ys h)),
-      λ h. list_all-from_AllPass p ys (All-permutation (λ x. p x ≡ true) xs ys s (AllPass-from_list_all p xs h)),
-    )
+  all_same : (xs ys : List X) → IsPermutation xs ys → list_all p xs ≡ list_all p ys
+  all_same xs ys s = same_from_decides {P = list_all p xs ≡ true} _ _ (λ h. h, λ h. h) (
+    λ h. list_all-from_AllPass p xs (All-permutation (λ x. p x ≡ true) ys xs (IsPermutation-sym xs ys s) (AllPass-from_list_all p ys h)),
+    λ h. list_all-from_AllPass p ys (All-permutation (λ x. p x ≡ true) xs ys s (AllPass-from_list_all p xs h)),
+  )
 
 -- each parameter's name is known
-known_name : (p : Parameter) → is_some (parameter_of (parameter_text p)) ≡ true
+known_name : (p : Parameter) → parameter_of (parameter_text p) ≡ Some p
 known_name Sampling = refl
 known_name Depth = refl
 known_name Width = refl
@@ -154,7 +115,7 @@ unknown_of_none p e h = go (has_name (parameter_text p) e) refl
     go false s = refl
     go true s =
         let name = (bytes_eq-Decides e.name (parameter_text p)).0 s in
-        absurd (both_ways _ h (ap (λ n. is_some (parameter_of n)) name ∙ known_name p))
+        absurd (both_ways _ h (ap (λ n. is_some (parameter_of n)) name ∙ ap is_some (known_name p)))
 
 -- and it is permitted
 unknown_permitted : (e : EntryText) → is_some (parameter_of e.name) ≡ false → permitted e ≡ true
@@ -166,27 +127,15 @@ unknown_permitted e h = go (parameter_of e.name) h
 
 -- the list has every parameter
 of_none : (f : Parameter → Bool) → list_any f parameters ≡ false → (p : Parameter) → f p ≡ false
-of_none f h = of_all (none parameters h)
+of_none f h p = go (f p) refl
   where
-    none : (ps : List Parameter) → list_any f ps ≡ false → AllOf (λ p. f p ≡ false) ps
-    none [] h = tt
-    none (p ∷ ps) h = let parts = or_parts (f p) (list_any f ps) h in (parts.0, none ps parts.1)
-
-    of_all : AllOf (λ p. f p ≡ false) parameters → (p : Parameter) → f p ≡ false
-    of_all a Sampling = a.0
-    of_all a Depth = a.1.0
-    of_all a Width = a.1.1.0
-    of_all a Height = a.1.1.1.0
-    of_all a FrameRate = a.1.1.1.1.0
-    of_all a Colorimetry = a.1.1.1.1.1.0
-    of_all a Packing = a.1.1.1.1.1.1.0
-    of_all a Edition = a.1.1.1.1.1.1.1.0
-    of_all a Interlace = a.1.1.1.1.1.1.1.1.0
-    of_all a Segmented = a.1.1.1.1.1.1.1.1.1.0
-    of_all a Transfer = a.1.1.1.1.1.1.1.1.1.1.0
-    of_all a Range = a.1.1.1.1.1.1.1.1.1.1.1.0
-    of_all a MaxUdp = a.1.1.1.1.1.1.1.1.1.1.1.1.0
-    of_all a PixelAspect = a.1.1.1.1.1.1.1.1.1.1.1.1.1.0
+    go : (b : Bool) → f p ≡ b → b ≡ false
+    go false e = refl
+    go true e =
+        let test : Parameter → Bool = λ q. bytes_eq (parameter_text q) (parameter_text p) in
+        let at : slice_get parameters (position_or_len test parameters) ≡ Some p = sym (find_at test parameters) ∙ known_name p in
+        let within = slice_get_within parameters (position_or_len test parameters) p at in
+        absurd (both_ways _ h (list_any_at f parameters (position_or_len test parameters) p within (ap f (get_or_from_slice_get parameters _ p p at) ∙ e)))
 
 -- entries in another order: where no known name comes twice, each parameter has the same entry
 shuffled_reading : (xs ys : List EntryText) → IsPermutation xs ys → reading_entries xs ≡ reading_entries ys
@@ -209,9 +158,20 @@ shuffled_reading xs ys s = go (repeated xs) refl
 -- entries without the unknown ones
 known_reading : (es : List EntryText) → reading_entries es ≡ reading_entries (known es)
 known_reading es =
-    λ i. cond (list_any (λ p. ltb 1 (count_kept (has_name (parameter_text p)) (λ e. is_some (parameter_of e.name)) (unknown_of_none p) es i)) parameters) (Err 22)
-    (cond (not (all_kept permitted (λ e. is_some (parameter_of e.name)) unknown_permitted es i)) (Err 23)
-    (consistent (record_of (λ p. find_kept (has_name (parameter_text p)) (λ e. is_some (parameter_of e.name)) (unknown_of_none p) es i))))
+    λ i. cond (list_any (λ p. ltb 1 (times p i)) parameters) (Err 22) (cond (not (permits i)) (Err 23) (consistent (record_of (λ p. first p i))))
+  where
+    times : (p : Parameter) → count_by (has_name (parameter_text p)) es ≡ count_by (has_name (parameter_text p)) (known es)
+    times p =
+        folded_kept (count_by (has_name (parameter_text p))) (λ e n. cond (has_name (parameter_text p) e) 1 0 + n) (λ e. is_some (parameter_of e.name))
+        (sum_by-cons (λ e. cond (has_name (parameter_text p) e) 1 0)) (λ e n h. ap (λ b. cond b 1 0 + n) (unknown_of_none p e h) ∙ zero-add n) es
+
+    first : (p : Parameter) → entry_in es p ≡ entry_in (known es) p
+    first p =
+        folded_kept (find (has_name (parameter_text p))) (λ e o. cond (has_name (parameter_text p) e) (Some e) o) (λ e. is_some (parameter_of e.name))
+        (λ e es. refl) (λ e o h. ap (λ b. cond b (Some e) o) (unknown_of_none p e h)) es
+
+    permits : list_all permitted es ≡ list_all permitted (known es)
+    permits = folded_kept (list_all permitted) (λ e b. permitted e && b) (λ e. is_some (parameter_of e.name)) (λ e es. refl) (λ e b h. ap (λ c. c && b) (unknown_permitted e h)) es
 
 pub legible_reading : (line : List ℕ) → Legible line → reading line ≡ reading_entries (entries line)
 legible_reading line h =

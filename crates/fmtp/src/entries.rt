@@ -92,7 +92,7 @@ impl<'a> Iterator for Entries<'a> {
     }
 }
 
-// What stands between two semicolons.
+// What stands between two semicolons of a line.
 #[derive(Clone, Copy)]
 struct Piece<'a> {
     text: &'a [u8],
@@ -110,7 +110,7 @@ impl Piece<'_> {
     }
 }
 
-// The pieces of a line.
+// The pieces of a line. `Entries` does not go by them: what is no entry ends it for good, and a flag for that would say no more.
 #[derive(Clone, Copy)]
 struct Pieces<'a> {
     // what stands behind the last semicolon that was passed

@@ -1,6 +1,8 @@
 //! Numbers in a format line: decimals without a leading zero, and ratios of two.
 
 ghost use Rattle.std.specs.Prelude.{◌≡◌, ◌<◌};
+ghost use Rattle.std.specs.Char.{is_ascii_digit};
+ghost use Rattle.std.specs.List.{list_all};
 ghost use Rattle.fmtp.specs.Decimals.{decimal_of, coprime, ratio_of, rate_of};
 
 use crate::texts::split_at_first;
@@ -10,11 +12,17 @@ use records::Ratio;
 pub fn decimal(text: &[u8], limit: u32) -> Option<u32>
     ensures { result ≡ decimal_of limit text.now }
 {
-    if text.starts_with(b"0") || !text.iter().all(u8::is_ascii_digit) {
+    if text.starts_with(b"0") || !is_digits(text) {
         return None;
     }
     let number = str::from_utf8(text).ok()?.parse::<u32>().ok()?;
     (number <= limit).then_some(number)
+}
+
+fn is_digits(text: &[u8]) -> bool
+    ensures { result ≡ list_all is_ascii_digit text.now }
+{
+    text.iter().all(|octet| octet.is_ascii_digit())
 }
 
 /// Two numbers from 1 to `limit` with the separator between them, and with no common divisor.

@@ -1,6 +1,6 @@
 //! Octet texts: splitting them at an octet, and passing over blanks.
 
-ghost use Rattle.std.specs.Prelude.{◌≡◌};
+ghost use Rattle.std.specs.Prelude.{◌≡◌, ◌==◌, position};
 ghost use Rattle.std.specs.Option.{option_map};
 ghost use Rattle.fmtp.specs.Lines.{before, behind, blank, trimmed};
 
@@ -9,10 +9,16 @@ pub fn split_at_first(text: &[u8], separator: u8) -> (&[u8], Option<&[u8]>)
     ensures front { result.0.now ≡ before separator text.now }
     ensures rest { option_map (λ x. x.now) result.1 ≡ behind separator text.now }
 {
-    match text.iter().position(|&octet| octet == separator) {
+    match place_of(text, separator) {
         Some(i) => (&text[..i], Some(&text[i + 1..])),
         None => (text, None),
     }
+}
+
+fn place_of(text: &[u8], octet: u8) -> Option<usize>
+    ensures { result ≡ position (λ x. x == octet) text.now }
+{
+    text.iter().position(|&x| x == octet)
 }
 
 fn is_blank(octet: u8) -> bool
