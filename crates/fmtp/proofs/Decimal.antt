@@ -26,12 +26,14 @@ own : IsNumeralModel (λ ds. list_all is_ascii_digit ds ≡ true) written
 own = numerals_by_fold _ (search rules) (λ n ds. number_from_digits_after 10 n (map (λ c. c - 0x30) ds)) (search rules)
 
 -- `decimal_of`, where its tests are known
-decimal_by : (limit : ℕ) (text : List ℕ) (none zero digits fits : Bool) → empty text ≡ none → eqb (get_or text 0 0) 0x30 ≡ zero → list_all is_ascii_digit text ≡ digits → leb (written text) limit ≡ fits
+decimal_by : (limit : ℕ) (text : List ℕ) (none zero digits fits : Bool) → empty text ≡ none → eqb (get_or text 0 0) 0x30 ≡ zero → list_all is_ascii_digit text ≡ digits
+    → leb (written text) limit ≡ fits
     → decimal_of limit text ≡ cond (not none && not zero && (digits && fits)) (Some (written text)) None
 decimal_by limit text none zero digits fits a b c d = λ i. cond (not (a i) && not (b i) && (c i && d i)) (Some (written text)) None
 
 -- what `parse` reads of digits
-parsed : {E : Type 0} (limit : ℕ) (text : List ℕ) → limit < 2 ^ 32 → eqb (get_or text 0 0) 0x30 ≡ false → list_all is_ascii_digit text ≡ true → (r : Result ℕ E) → ParsesUnsigned 32 10 text r
+parsed : {E : Type 0} (limit : ℕ) (text : List ℕ) → limit < 2 ^ 32 → eqb (get_or text 0 0) 0x30 ≡ false → list_all is_ascii_digit text ≡ true
+    → (r : Result ℕ E) → ParsesUnsigned 32 10 text r
     → decimal_of limit text ≡ option_and_then (λ n. then_some (leb n limit) n) (result_ok r)
 parsed {E = E} limit text small lead digits (Ok n) h =
     let read = parse_digits own {E = E} 32 text (Ok n) h digits in
@@ -68,7 +70,8 @@ digits_are_text bs h = IsUtf8-from_ascii bs ascii
         (cases_lt i (length bs))
 
 -- digits, read as text and then as a number
-module _ {E : Type 0} (W : E → Type 0) (text : List ℕ) (u : Result (Bor (List ℕ)) E) (cases : MatchResult u (λ s. (s.now ≡ text) × IsUtf8 text) (λ e. ¬ (IsUtf8 text) × W e)) (digits : list_all is_ascii_digit text ≡ true) where
+module _ {E : Type 0} (W : E → Type 0) (text : List ℕ) (u : Result (Bor (List ℕ)) E) (cases : MatchResult u (λ s. (s.now ≡ text) × IsUtf8 text) (λ e. ¬ (IsUtf8 text) × W e))
+    (digits : list_all is_ascii_digit text ≡ true) where
   pub some_text : result_ok u ≡ None → ⊥
   some_text = go u cases
     where

@@ -6,4 +6,6 @@ use Rattle.fmtp.specs.Parameters.{permitted}
 use Rattle.fmtp.proofs.reader.is_all_permitted.Goals as goal
 
 pub returns : goal.returns
-returns c = all_from_yields_List permitted c.all.new.self _ c.all.result c.all.ensures.ran (YieldsList-from_first text_of entries_left _ refl) (λ x b q k. search (rules, tests))
+returns c =
+    all_from_yields_List permitted c.all.new.self _ c.all.result c.all.ensures.ran
+    (YieldsList-from_first text_of entries_left _ refl) (λ x b q k. search (rules, tests))
