@@ -1,4 +1,4 @@
 pub mod Decimal
 pub mod Order
 pub mod Pieces
-pub mod Searching
+pub mod Steps

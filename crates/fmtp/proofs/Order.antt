@@ -1,12 +1,16 @@
 -- The order of the entries, and the unknown ones, do not matter. Assumes nothing.
-use Rattle.std.proofs.Common.{◌≡◌, ℕ, ◌+◌, ◌<◌, ◌≤◌, Bool, true, false, cond, not, ◌&&◌, ◌||◌, eqb, ltb, List, [], ◌∷◌, is_some, Some, None, Err, sum_by, Option, sym, refl, ap, ◌∙◌, ⊎_elim, zero-add, arith}
-use Rattle.std.specs.List.{AllByRecursion as All}
+use Rattle.std.proofs.Common.{◌≡◌, ℕ, ◌+◌, ◌<◌, ◌≤◌, Bool, true, false, cond, not, ◌&&◌, ltb, List, [], ◌∷◌, length, get_or, take, is_some, Some, None, Err, Option, find, filter, count_by, sym, refl, ap, ◌∙◌, zero-add, arith}
+use Rattle.std.specs.List.{list_all, list_any, position_or_len, slice_get}
+use Rattle.std.specs.Str.{bytes_eq}
 use Rattle.std.specs.List.Sorted.{IsPermutation}
-use Rattle.std.proofs.lemmas.List.Sorted.{sum_by-IsPermutation}
-use Rattle.std.proofs.ByRecursion.{all_shuffled}
+use Rattle.std.proofs.lemmas.List.Sorted.{sum_by-IsPermutation, All-permutation, Contains-permutation, IsPermutation-sym}
 use Rattle.std.proofs.lemmas.Slice.Eq.{bytes_eq-Decides}
-use Rattle.std.proofs.lemmas.List.Sums.{sum_by-cons}
-use Rattle.std.proofs.lemmas.Bool.{both_ways, ltb-false, cases_lt, or_parts, ne_eqb, cond-true, cond-false}
+use Rattle.std.proofs.lemmas.List.Sums.{sum_by-cons, sum_by-take-drop, sum_by-drop_more, get_or-le-sum_by, position_or_len_is, passes_at_first, AllPass-from_list_all, list_all-from_AllPass}
+use Rattle.std.proofs.lemmas.List.Folds.{find_at, list_any_at}
+use Rattle.std.proofs.lemmas.List.{get_or-take, length-take}
+use Rattle.std.proofs.lemmas.Option.{slice_get_within, slice_get-get_or, get_or_from_slice_get}
+use Rattle.std.proofs.lemmas.Bool.{both_ways, ltb-false, cond-true, cond-false}
+use Rattle.std.proofs.lemmas.Bool.Decides.{same_from_decides}
 use Rattle.fmtp.specs.declared.parameters.Parameter.{Parameter}
 use Rattle.fmtp.specs.declared.parameters.Parameter.TheVariants.{
   Sampling,
@@ -26,11 +30,68 @@ use Rattle.fmtp.specs.declared.parameters.Parameter.TheVariants.{
 }
 use Rattle.fmtp.specs.Lines.{EntryText, entries, well_formed}
 use Rattle.fmtp.specs.Parameters.{parameter_text, parameters, parameter_of, permitted, permitted_as}
-use Rattle.fmtp.specs.Reading.{has_name, times, find, some_twice, entry_in, repeated, all_permitted, record_of, consistent, reading_entries, reading}
+use Rattle.fmtp.specs.Reading.{has_name, entry_in, repeated, record_of, consistent, reading_entries, reading}
 use Rattle.fmtp.specs.Same.{known, Legible, SameParameters}
 
+-- elements at which a fold keeps its value may be left out
+folded_kept : {X Y : Type 0} (F : List X → Y) (h : X → Y → Y) (q : X → Bool) → ((x : X) (xs : List X) → F (x ∷ xs) ≡ h x (F xs)) → ((x : X) (y : Y) → q x ≡ false → h x y ≡ y)
+    → (xs : List X) → F xs ≡ F (filter q xs)
+folded_kept F h q step skip [] = refl
+folded_kept F h q step skip (x ∷ xs) = go (q x) refl (folded_kept F h q step skip xs)
+  where
+    go : (b : Bool) → q x ≡ b → F xs ≡ F (filter q xs) → F (x ∷ xs) ≡ F (cond b (x ∷ filter q xs) (filter q xs))
+    go true e rec = step x xs ∙ ap (h x) rec ∙ sym (step x (filter q xs))
+    go false e rec = step x xs ∙ skip x (F xs) e ∙ rec
+
+module _ {X : Type 0} (p : X → Bool) where
+  -- where one element passes at most, it is the one that is found
+  only_found : (f : X) (xs : List X) (k : ℕ) → k < length xs → get_or xs k f ≡ f → p f ≡ true → count_by p xs ≤ 1 → find p xs ≡ Some f
+  only_found f xs k within at passes one =
+      find_at p xs
+      ∙ ap (slice_get xs) (position_or_len_is p xs k f (omega arith) before (λ _. ap p at ∙ passes))
+      ∙ slice_get-get_or xs k f within ∙ ap Some at
+    where
+      before : (j : ℕ) → j < k → p (get_or xs j f) ≡ false
+      before j l = go (p (get_or xs j f)) refl
+        where
+          go : (b : Bool) → p (get_or xs j f) ≡ b → b ≡ false
+          go false e = refl
+          go true e =
+              let whole = sum_by-take-drop (λ x. cond (p x) 1 0) xs k in
+              let here = sum_by-drop_more (λ x. cond (p x) 1 0) xs k f within in
+              let there = get_or-le-sum_by (λ x. cond (p x) 1 0) (take k xs) j f (omega (arith, length-take k xs)) in
+              let first_is = ap (λ b. cond {A = ℕ} b 1 0) (ap p at ∙ passes) in
+              let second_is = ap (λ b. cond {A = ℕ} b 1 0) (ap p (get_or-take k xs j f l) ∙ e) in
+              absurd (omega (arith, whole, here, there, first_is, second_is))
+
+  -- a list in another order
+  count_same : (xs ys : List X) → IsPermutation xs ys → count_by p xs ≡ count_by p ys
+  count_same xs ys s = sym (sum_by-IsPermutation (λ x. cond (p x) 1 0) xs ys s)
+
+  found_too : (xs ys : List X) → IsPermutation xs ys → count_by p xs ≤ 1 → (f : X) → find p xs ≡ Some f → find p ys ≡ Some f
+  found_too xs ys s one f h =
+      let at : slice_get xs (position_or_len p xs) ≡ Some f = sym (find_at p xs) ∙ h in
+      let within = slice_get_within xs (position_or_len p xs) f at in
+      let same = get_or_from_slice_get xs (position_or_len p xs) f f at in
+      let there = Contains-permutation xs ys f s (position_or_len p xs, within, same) in
+      only_found f ys there.0 there.1 there.2 (sym (ap p same) ∙ passes_at_first p xs f within) (omega (arith, count_same xs ys s))
+
+  find_same : (xs ys : List X) → IsPermutation xs ys → count_by p xs ≤ 1 → find p xs ≡ find p ys
+  find_same xs ys s one = go (find p xs) (find p ys) refl refl
+    where
+      go : (a b : Option X) → find p xs ≡ a → find p ys ≡ b → find p xs ≡ find p ys
+      go None None e g = e ∙ sym g
+      go (Some f) b e g = e ∙ sym (found_too xs ys s one f e)
+      go None (Some f) e g = found_too ys xs (IsPermutation-sym xs ys s) (omega (arith, count_same xs ys s)) f g ∙ sym g
+
+  all_same : (xs ys : List X) → IsPermutation xs ys → list_all p xs ≡ list_all p ys
+  all_same xs ys s = same_from_decides {P = list_all p xs ≡ true} _ _ (λ h. h, λ h. h) (
+    λ h. list_all-from_AllPass p xs (All-permutation (λ x. p x ≡ true) ys xs (IsPermutation-sym xs ys s) (AllPass-from_list_all p ys h)),
+    λ h. list_all-from_AllPass p ys (All-permutation (λ x. p x ≡ true) xs ys s (AllPass-from_list_all p xs h)),
+  )
+
 -- each parameter's name is known
-known_name : (p : Parameter) → is_some (parameter_of (parameter_text p)) ≡ true
+known_name : (p : Parameter) → parameter_of (parameter_text p) ≡ Some p
 known_name Sampling = refl
 known_name Depth = refl
 known_name Width = refl
@@ -54,165 +115,63 @@ unknown_of_none p e h = go (has_name (parameter_text p) e) refl
     go false s = refl
     go true s =
         let name = (bytes_eq-Decides e.name (parameter_text p)).0 s in
-        absurd (both_ways _ h (ap (λ n. is_some (parameter_of n)) name ∙ known_name p))
+        absurd (both_ways _ h (ap (λ n. is_some (parameter_of n)) name ∙ ap is_some (known_name p)))
 
--- how often a name comes, as a sum
-times_sum : (n : List ℕ) (es : List EntryText) → times n es ≡ sum_by (λ e. cond (has_name n e) 1 0) es
-times_sum n [] = refl
-times_sum n (e ∷ es) = ap (λ t. cond (has_name n e) 1 0 + t) (times_sum n es) ∙ sym (sum_by-cons (λ e. cond (has_name n e) 1 0) e es)
-
-module _ (n : List ℕ) where
-  -- a name that does not come
-  find_none : (es : List EntryText) → times n es ≡ 0 → find n es ≡ None
-  find_none [] h = refl
-  find_none (e ∷ es) h = go (has_name n e) (find_none es) h
-    where
-      go : (b : Bool) → (times n es ≡ 0 → find n es ≡ None) → cond b 1 0 + times n es ≡ 0 → cond b (Some e) (find n es) ≡ None
-      go true rec h = absurd (omega arith)
-      go false rec h = rec (omega arith)
-
-  -- a name that comes
-  find_some : (es : List EntryText) → 0 < times n es → (e : EntryText) × (find n es ≡ Some e)
-  find_some [] h = absurd (omega arith)
-  find_some (e ∷ es) h = go (has_name n e) (find_some es) h
-    where
-      go : (b : Bool) → (0 < times n es → (e : EntryText) × (find n es ≡ Some e)) → 0 < cond b 1 0 + times n es → (f : EntryText) × (cond b (Some e) (find n es) ≡ Some f)
-      go true rec h = (e, refl)
-      go false rec h = rec (omega arith)
-
-  -- f is the only entry of the name
-  only_none : (f : EntryText) (es : List EntryText) → times n es ≡ 0 → All (λ e. has_name n e ≡ true → e ≡ f) es
-  only_none f [] h = tt
-  only_none f (e ∷ es) h = go (has_name n e) (only_none f es) h
-    where
-      go : (b : Bool) → (times n es ≡ 0 → All (λ e. has_name n e ≡ true → e ≡ f) es) → cond b 1 0 + times n es ≡ 0 → (b ≡ true → e ≡ f) × All (λ e. has_name n e ≡ true → e ≡ f) es
-      go true rec h = absurd (omega arith)
-      go false rec h = (λ t. absurd (both_ways false refl t), rec (omega arith))
-
-  only_found : (f : EntryText) (es : List EntryText) → times n es ≤ 1 → find n es ≡ Some f → All (λ e. has_name n e ≡ true → e ≡ f) es
-  only_found f [] h s = tt
-  only_found f (e ∷ es) h s = go (has_name n e) (only_found f es) (only_none f es) h s
-    where
-      go : (b : Bool) → (times n es ≤ 1 → find n es ≡ Some f → All (λ e. has_name n e ≡ true → e ≡ f) es) → (times n es ≡ 0 → All (λ e. has_name n e ≡ true → e ≡ f) es)
-          → cond b 1 0 + times n es ≤ 1 → cond b (Some e) (find n es) ≡ Some f → (b ≡ true → e ≡ f) × All (λ e. has_name n e ≡ true → e ≡ f) es
-      go true rec none h s = (λ t. cc, none (omega arith))
-      go false rec none h s = (λ t. absurd (both_ways false refl t), rec (omega arith) s)
-
-  found_only : (f : EntryText) (es : List EntryText) → 0 < times n es → All (λ e. has_name n e ≡ true → e ≡ f) es → find n es ≡ Some f
-  found_only f [] h a = absurd (omega arith)
-  found_only f (e ∷ es) h a = go (has_name n e) (found_only f es) h a
-    where
-      go : (b : Bool) → (0 < times n es → All (λ e. has_name n e ≡ true → e ≡ f) es → find n es ≡ Some f)
-          → 0 < cond b 1 0 + times n es → (b ≡ true → e ≡ f) × All (λ e. has_name n e ≡ true → e ≡ f) es → cond b (Some e) (find n es) ≡ Some f
-      go true rec h a = ap Some (a.0 refl)
-      go false rec h a = rec (omega arith) a.1
-
--- entries are all permitted where there are none that are not
-faultless : (es : List EntryText) → all_permitted es ≡ eqb (sum_by (λ e. cond (permitted e) 0 1) es) 0
-faultless [] = refl
-faultless (e ∷ es) = go (permitted e) (faultless es) ∙ ap (λ n. eqb n 0) (sym (sum_by-cons (λ e. cond (permitted e) 0 1) e es))
+-- and it is permitted
+unknown_permitted : (e : EntryText) → is_some (parameter_of e.name) ≡ false → permitted e ≡ true
+unknown_permitted e h = go (parameter_of e.name) h
   where
-    go : (b : Bool) → all_permitted es ≡ eqb (sum_by (λ e. cond (permitted e) 0 1) es) 0 → (b && all_permitted es) ≡ eqb (cond b 0 1 + sum_by (λ e. cond (permitted e) 0 1) es) 0
-    go true h = h ∙ ap (λ n. eqb n 0) (sym (zero-add (sum_by (λ e. cond (permitted e) 0 1) es)))
-    go false h = sym (ne_eqb _ 0 (λ z. omega arith))
-
--- no parameter of a list comes twice
-not_twice : (ps : List Parameter) (es : List EntryText) → some_twice ps es ≡ false → All (λ p. times (parameter_text p) es ≤ 1) ps
-not_twice [] es h = tt
-not_twice (p ∷ ps) es h =
-    let parts = or_parts (ltb 1 (times (parameter_text p) es)) (some_twice ps es) h in
-    (ltb-false 1 (times (parameter_text p) es) parts.0, not_twice ps es parts.1)
+    go : (o : Option Parameter) → is_some o ≡ false → permitted_as o e.value ≡ true
+    go None h = refl
+    go (Some p) h = absurd (both_ways _ h refl)
 
 -- the list has every parameter
-of_all : (P : Parameter → Type 0) → All P parameters → (p : Parameter) → P p
-of_all P a Sampling = a.0
-of_all P a Depth = a.1.0
-of_all P a Width = a.1.1.0
-of_all P a Height = a.1.1.1.0
-of_all P a FrameRate = a.1.1.1.1.0
-of_all P a Colorimetry = a.1.1.1.1.1.0
-of_all P a Packing = a.1.1.1.1.1.1.0
-of_all P a Edition = a.1.1.1.1.1.1.1.0
-of_all P a Interlace = a.1.1.1.1.1.1.1.1.0
-of_all P a Segmented = a.1.1.1.1.1.1.1.1.1.0
-of_all P a Transfer = a.1.1.1.1.1.1.1.1.1.1.0
-of_all P a Range = a.1.1.1.1.1.1.1.1.1.1.1.0
-of_all P a MaxUdp = a.1.1.1.1.1.1.1.1.1.1.1.1.0
-of_all P a PixelAspect = a.1.1.1.1.1.1.1.1.1.1.1.1.1.0
+of_none : (f : Parameter → Bool) → list_any f parameters ≡ false → (p : Parameter) → f p ≡ false
+of_none f h p = go (f p) refl
+  where
+    go : (b : Bool) → f p ≡ b → b ≡ false
+    go false e = refl
+    go true e =
+        let test : Parameter → Bool = λ q. bytes_eq (parameter_text q) (parameter_text p) in
+        let at : slice_get parameters (position_or_len test parameters) ≡ Some p = sym (find_at test parameters) ∙ known_name p in
+        let within = slice_get_within parameters (position_or_len test parameters) p at in
+        absurd (both_ways _ h (list_any_at f parameters (position_or_len test parameters) p within (ap f (get_or_from_slice_get parameters _ p p at) ∙ e)))
 
--- entries in another order
-module _ (xs ys : List EntryText) (s : IsPermutation xs ys) where
-  times_same : (n : List ℕ) → times n xs ≡ times n ys
-  times_same n = times_sum n xs ∙ sym (sum_by-IsPermutation (λ e. cond (has_name n e) 1 0) xs ys s) ∙ sym (times_sum n ys)
-
-  find_same : (n : List ℕ) → times n xs ≤ 1 → find n xs ≡ find n ys
-  find_same n h = ⊎_elim some none (cases_lt 0 (times n xs))
-    where
-      some : 0 < times n xs → find n xs ≡ find n ys
-      some p =
-          let f = find_some n xs p in
-          let only = all_shuffled (λ e. has_name n e ≡ true → e ≡ f.0) xs ys s (only_found n f.0 xs h f.1) in
-          f.1 ∙ sym (found_only n f.0 ys (omega (arith, times_same n)) only)
-
-      none : times n xs ≤ 0 → find n xs ≡ find n ys
-      none p = find_none n xs (omega arith) ∙ sym (find_none n ys (omega (arith, times_same n)))
-
-  twice_same : (ps : List Parameter) → some_twice ps xs ≡ some_twice ps ys
-  twice_same [] = refl
-  twice_same (p ∷ ps) = λ i. ltb 1 (times_same (parameter_text p) i) || twice_same ps i
-
-  permitted_same : all_permitted xs ≡ all_permitted ys
-  permitted_same = faultless xs ∙ ap (λ n. eqb n 0) (sym (sum_by-IsPermutation (λ e. cond (permitted e) 0 1) xs ys s)) ∙ sym (faultless ys)
-
-  -- where no known name comes twice, each parameter has the same entry
-  entry_same : repeated xs ≡ false → (p : Parameter) → find (parameter_text p) xs ≡ find (parameter_text p) ys
-  entry_same h p = find_same (parameter_text p) (of_all (λ p. times (parameter_text p) xs ≤ 1) (not_twice parameters xs h) p)
-
+-- entries in another order: where no known name comes twice, each parameter has the same entry
 shuffled_reading : (xs ys : List EntryText) → IsPermutation xs ys → reading_entries xs ≡ reading_entries ys
 shuffled_reading xs ys s = go (repeated xs) refl
   where
+    twice_same : repeated xs ≡ repeated ys
+    twice_same = λ i. list_any (λ p. ltb 1 (count_same (has_name (parameter_text p)) xs ys s i)) parameters
+
+    entry_same : repeated xs ≡ false → (p : Parameter) → entry_in xs p ≡ entry_in ys p
+    entry_same h p =
+        find_same (has_name (parameter_text p)) xs ys s (ltb-false 1 _ (of_none (λ p. ltb 1 (count_by (has_name (parameter_text p)) xs)) h p))
+
     go : (b : Bool) → repeated xs ≡ b → reading_entries xs ≡ reading_entries ys
-    go true e = cond-true _ _ _ e ∙ sym (cond-true _ _ _ (sym (twice_same xs ys s parameters) ∙ e))
+    go true e = cond-true _ _ _ e ∙ sym (cond-true _ _ _ (sym twice_same ∙ e))
     go false e =
         cond-false _ _ _ e
-        ∙ (λ i. cond (not (permitted_same xs ys s i)) (Err 23) (consistent (record_of (λ p. entry_same xs ys s e p i))))
-        ∙ sym (cond-false _ _ _ (sym (twice_same xs ys s parameters) ∙ e))
+        ∙ (λ i. cond (not (all_same permitted xs ys s i)) (Err 23) (consistent (record_of (λ p. entry_same e p i))))
+        ∙ sym (cond-false _ _ _ (sym twice_same ∙ e))
 
 -- entries without the unknown ones
-known_times : (p : Parameter) (es : List EntryText) → times (parameter_text p) es ≡ times (parameter_text p) (known es)
-known_times p [] = refl
-known_times p (e ∷ es) = go (is_some (parameter_of e.name)) refl (known_times p es)
-  where
-    go : (b : Bool) → is_some (parameter_of e.name) ≡ b → times (parameter_text p) es ≡ times (parameter_text p) (known es)
-        → cond (has_name (parameter_text p) e) 1 0 + times (parameter_text p) es ≡ times (parameter_text p) (cond b (e ∷ known es) (known es))
-    go true h rec = ap (λ n. cond (has_name (parameter_text p) e) 1 0 + n) rec
-    go false h rec = ap (λ b. cond b 1 0 + times (parameter_text p) es) (unknown_of_none p e h) ∙ zero-add _ ∙ rec
-
-known_entry : (es : List EntryText) (p : Parameter) → entry_in es p ≡ entry_in (known es) p
-known_entry [] p = refl
-known_entry (e ∷ es) p = go (is_some (parameter_of e.name)) refl (known_entry es p)
-  where
-    go : (b : Bool) → is_some (parameter_of e.name) ≡ b → entry_in es p ≡ entry_in (known es) p
-        → cond (has_name (parameter_text p) e) (Some e) (entry_in es p) ≡ entry_in (cond b (e ∷ known es) (known es)) p
-    go true h rec = ap (λ o. cond (has_name (parameter_text p) e) (Some e) o) rec
-    go false h rec = ap (λ b. cond b (Some e) (entry_in es p)) (unknown_of_none p e h) ∙ rec
-
-known_permitted : (es : List EntryText) → all_permitted es ≡ all_permitted (known es)
-known_permitted [] = refl
-known_permitted (e ∷ es) = go (parameter_of e.name) refl (known_permitted es)
-  where
-    go : (o : Option Parameter) → parameter_of e.name ≡ o → all_permitted es ≡ all_permitted (known es)
-        → (permitted_as o e.value && all_permitted es) ≡ all_permitted (cond (is_some o) (e ∷ known es) (known es))
-    go None h rec = rec
-    go (Some p) h rec = (λ i. permitted_as (sym h i) e.value && rec i)
-
-known_twice : (ps : List Parameter) (es : List EntryText) → some_twice ps es ≡ some_twice ps (known es)
-known_twice [] es = refl
-known_twice (p ∷ ps) es = λ i. ltb 1 (known_times p es i) || known_twice ps es i
-
 known_reading : (es : List EntryText) → reading_entries es ≡ reading_entries (known es)
 known_reading es =
-    λ i. cond (known_twice parameters es i) (Err 22) (cond (not (known_permitted es i)) (Err 23) (consistent (record_of (λ p. known_entry es p i))))
+    λ i. cond (list_any (λ p. ltb 1 (times p i)) parameters) (Err 22) (cond (not (permits i)) (Err 23) (consistent (record_of (λ p. first p i))))
+  where
+    times : (p : Parameter) → count_by (has_name (parameter_text p)) es ≡ count_by (has_name (parameter_text p)) (known es)
+    times p =
+        folded_kept (count_by (has_name (parameter_text p))) (λ e n. cond (has_name (parameter_text p) e) 1 0 + n) (λ e. is_some (parameter_of e.name))
+        (sum_by-cons (λ e. cond (has_name (parameter_text p) e) 1 0)) (λ e n h. ap (λ b. cond b 1 0 + n) (unknown_of_none p e h) ∙ zero-add n) es
+
+    first : (p : Parameter) → entry_in es p ≡ entry_in (known es) p
+    first p =
+        folded_kept (find (has_name (parameter_text p))) (λ e o. cond (has_name (parameter_text p) e) (Some e) o) (λ e. is_some (parameter_of e.name))
+        (λ e es. refl) (λ e o h. ap (λ b. cond b (Some e) o) (unknown_of_none p e h)) es
+
+    permits : list_all permitted es ≡ list_all permitted (known es)
+    permits = folded_kept (list_all permitted) (λ e b. permitted e && b) (λ e. is_some (parameter_of e.name)) (λ e es. refl) (λ e b h. ap (λ c. c && b) (unknown_permitted e h)) es
 
 pub legible_reading : (line : List ℕ) → Legible line → reading line ≡ reading_entries (entries line)
 legible_reading line h =

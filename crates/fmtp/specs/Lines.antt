@@ -1,15 +1,14 @@
 -- From the octets of a format line to its entries. Assumes nothing.
-use Rattle.std.specs.Prelude.{ℕ, Bool, true, false, cond, not, ◌&&◌, ◌||◌, List, [], ◌∷◌, length, is_some, Some, None, Option, ◌==◌, nat_le, nat_lt}
+use Rattle.std.specs.Prelude.{ℕ, Bool, true, false, cond, not, ◌&&◌, ◌||◌, List, [], ◌∷◌, length, drop, is_some, Some, None, Option, ◌==◌, nat_le, nat_lt}
+use Rattle.std.specs.List.{list_all, prefix_len, position_or_len, before_first, after_first, slice_split}
 
 -- the octets in front of the first c, all if there is none
 abbrev pub before : ℕ → List ℕ → List ℕ
-before c [] = []
-before c (x ∷ xs) = cond (x == c) [] (x ∷ before c xs)
+before c xs = before_first (λ x. x == c) xs
 
 -- the octets behind the first c
 abbrev pub behind : ℕ → List ℕ → Option (List ℕ)
-behind c [] = None
-behind c (x ∷ xs) = cond (x == c) (Some xs) (behind c xs)
+behind c xs = cond (nat_lt (position_or_len (λ x. x == c) xs) (length xs)) (Some (after_first (λ x. x == c) xs)) None
 
 -- a space or a tab
 abbrev pub blank : ℕ → Bool
@@ -17,15 +16,10 @@ blank x = x == 0x20 || x == 0x09
 
 -- a text without the blanks in front
 abbrev pub trimmed : List ℕ → List ℕ
-trimmed [] = []
-trimmed (x ∷ xs) = cond (blank x) (trimmed xs) (x ∷ xs)
+trimmed xs = drop (prefix_len blank xs) xs
 
 abbrev pub empty : List ℕ → Bool
 empty xs = length xs == 0
-
-abbrev pub every : (ℕ → Bool) → List ℕ → Bool
-every f [] = true
-every f (x ∷ xs) = f x && every f xs
 
 -- an octet of a name or a value: 21 to 7E hex, no semicolon
 abbrev pub visible : ℕ → Bool
@@ -45,21 +39,11 @@ abbrev pub entry_of : List ℕ → Option EntryText
 entry_of text =
     let name = before 0x3D text in
     let value = behind 0x3D text in
-    cond (every visible text && not (empty name) && filled value) (Some (record { name = name; value = value })) None
-
-abbrev pub onto_first : ℕ → List (List ℕ) → List (List ℕ)
-onto_first x [] = (x ∷ []) ∷ []
-onto_first x (p ∷ ps) = (x ∷ p) ∷ ps
+    cond (list_all visible text && not (empty name) && filled value) (Some (record { name = name; value = value })) None
 
 -- the pieces of a line between its semicolons
 abbrev pub pieces : List ℕ → List (List ℕ)
-pieces [] = [] ∷ []
-pieces (x ∷ xs) = cond (x == 0x3B) ([] ∷ pieces xs) (onto_first x (pieces xs))
-
--- the pieces of what stands behind a semicolon, where there is one
-abbrev pub pieces_behind : Option (List ℕ) → List (List ℕ)
-pieces_behind None = []
-pieces_behind (Some text) = pieces text
+pieces line = slice_split (λ x. x == 0x3B) line
 
 -- a piece behind a semicolon: one blank or more, then an entry
 abbrev pub next_entry : List ℕ → Bool
@@ -69,7 +53,7 @@ next_entry p = nat_lt (length (trimmed p)) (length p) && is_some (entry_of (trim
 abbrev pub later_piece : Bool → List ℕ → Bool
 later_piece last p = (last && empty (trimmed p)) || next_entry p
 
-abbrev is_last : List (List ℕ) → Bool
+abbrev pub is_last : List (List ℕ) → Bool
 is_last [] = true
 is_last (p ∷ ps) = false
 

@@ -76,20 +76,9 @@ abbrev pub aspect_of : List ℕ → Option Ratio
 aspect_of value = ratio_of 0x3A 32767 value
 
 abbrev pub is_flag : Parameter → Bool
-is_flag Sampling = false
-is_flag Depth = false
-is_flag Width = false
-is_flag Height = false
-is_flag FrameRate = false
-is_flag Colorimetry = false
-is_flag Packing = false
-is_flag Edition = false
 is_flag Interlace = true
 is_flag Segmented = true
-is_flag Transfer = false
-is_flag Range = false
-is_flag MaxUdp = false
-is_flag PixelAspect = false
+is_flag _ = false
 
 -- whether a text is a value of the parameter
 abbrev pub accepts : Parameter → List ℕ → Bool

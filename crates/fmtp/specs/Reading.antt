@@ -1,10 +1,11 @@
 -- Reading a format line: the checks in their order, each over the whole line, and the record. Assumes nothing.
-use Rattle.std.specs.Prelude.{ℕ, ◌+◌, Bool, true, false, cond, not, ◌&&◌, ◌||◌, List, [], ◌∷◌, length, is_some, Some, None, Ok, Err, Option, Result, nat_lt}
+use Rattle.std.specs.Prelude.{ℕ, Bool, cond, not, List, length, is_some, Some, None, Ok, Err, Option, Result, nat_lt, find, count_by}
+use Rattle.std.specs.List.{list_all, list_any}
 use Rattle.std.specs.Str.{bytes_eq}
 use Rattle.fmtp.specs.declared.parameters.Parameter.{Parameter}
 use Rattle.fmtp.specs.declared.parameters.Parameter.TheVariants as name
 use Rattle.records.specs.declared.Record.{Record}
-use Rattle.fmtp.specs.Decimals.{then, rate_of}
+use Rattle.fmtp.specs.Decimals.{◌>>=◌, rate_of}
 use Rattle.fmtp.specs.Lines.{EntryText, entries, well_formed}
 use Rattle.fmtp.specs.Parameters.{parameter_text, parameters, size_of, max_udp_of, aspect_of, permitted}
 use Rattle.fmtp.specs.Consistency.{at_odds}
@@ -34,35 +35,16 @@ too_long line = nat_lt 1024 (length line)
 abbrev pub has_name : List ℕ → EntryText → Bool
 has_name n e = bytes_eq e.name n
 
--- how often a name comes
-abbrev pub times : List ℕ → List EntryText → ℕ
-times n [] = 0
-times n (e ∷ es) = cond (has_name n e) 1 0 + times n es
-
--- the first entry of a name
-abbrev pub find : List ℕ → List EntryText → Option EntryText
-find n [] = None
-find n (e ∷ es) = cond (has_name n e) (Some e) (find n es)
-
-abbrev pub some_twice : List Parameter → List EntryText → Bool
-some_twice [] es = false
-some_twice (p ∷ ps) es = nat_lt 1 (times (parameter_text p) es) || some_twice ps es
-
 -- 22: a known name comes twice
 abbrev pub repeated : List EntryText → Bool
-repeated es = some_twice parameters es
-
--- 23, where it fails: every known name has a value that it may have
-abbrev pub all_permitted : List EntryText → Bool
-all_permitted [] = true
-all_permitted (e ∷ es) = permitted e && all_permitted es
+repeated es = list_any (λ p. nat_lt 1 (count_by (has_name (parameter_text p)) es)) parameters
 
 -- the entry of each parameter
 abbrev pub entry_in : List EntryText → Parameter → Option EntryText
-entry_in es p = find (parameter_text p) es
+entry_in es p = find (has_name (parameter_text p)) es
 
 abbrev pub value_of : Parameter → (Parameter → Option EntryText) → Option (List ℕ)
-value_of p at = then (at p) (λ e. e.value)
+value_of p at = at p >>= (λ e. e.value)
 
 -- whether a flag is there
 abbrev pub flagged : Parameter → (Parameter → Option EntryText) → Bool
@@ -70,31 +52,31 @@ flagged p at = is_some (at p)
 
 -- the record that the entries of the parameters give; 24: nothing where a required one is missing
 abbrev pub record_of : (Parameter → Option EntryText) → Option Record
-record_of at =
-    then (then (value_of name.Sampling at) (spelled sampling_text samplings)) (λ sampling.
-    then (then (value_of name.Depth at) (spelled depth_text depths)) (λ depth.
-    then (then (value_of name.Width at) size_of) (λ width.
-    then (then (value_of name.Height at) size_of) (λ height.
-    then (then (value_of name.FrameRate at) rate_of) (λ frame_rate.
-    then (then (value_of name.Colorimetry at) (spelled colorimetry_text colorimetries)) (λ colorimetry.
-    then (then (value_of name.Packing at) (spelled packing_text packings)) (λ packing.
-    then (then (value_of name.Edition at) (spelled edition_text editions)) (λ edition.
-    Some (record {
-      sampling = sampling;
-      depth = depth;
-      width = width;
-      height = height;
-      frame_rate = frame_rate;
-      colorimetry = colorimetry;
-      packing = packing;
-      edition = edition;
-      interlace = flagged name.Interlace at;
-      segmented = flagged name.Segmented at;
-      transfer = then (value_of name.Transfer at) (spelled transfer_text transfers);
-      range = then (value_of name.Range at) (spelled range_text ranges);
-      max_udp = then (value_of name.MaxUdp at) max_udp_of;
-      pixel_aspect = then (value_of name.PixelAspect at) aspect_of;
-    })))))))))
+record_of at = do
+  sampling ← value_of name.Sampling at >>= spelled sampling_text samplings
+  depth ← value_of name.Depth at >>= spelled depth_text depths
+  width ← value_of name.Width at >>= size_of
+  height ← value_of name.Height at >>= size_of
+  frame_rate ← value_of name.FrameRate at >>= rate_of
+  colorimetry ← value_of name.Colorimetry at >>= spelled colorimetry_text colorimetries
+  packing ← value_of name.Packing at >>= spelled packing_text packings
+  edition ← value_of name.Edition at >>= spelled edition_text editions
+  Some (record {
+    sampling = sampling;
+    depth = depth;
+    width = width;
+    height = height;
+    frame_rate = frame_rate;
+    colorimetry = colorimetry;
+    packing = packing;
+    edition = edition;
+    interlace = flagged name.Interlace at;
+    segmented = flagged name.Segmented at;
+    transfer = value_of name.Transfer at >>= spelled transfer_text transfers;
+    range = value_of name.Range at >>= spelled range_text ranges;
+    max_udp = value_of name.MaxUdp at >>= max_udp_of;
+    pixel_aspect = value_of name.PixelAspect at >>= aspect_of;
+  })
 
 -- 25: parameters contradict each other
 abbrev pub consistent : Option Record → Result Record ℕ
@@ -105,7 +87,7 @@ consistent (Some r) = cond (at_odds r) (Err 25) (Ok r)
 abbrev pub reading_entries : List EntryText → Result Record ℕ
 reading_entries es =
     cond (repeated es) (Err 22)
-    (cond (not (all_permitted es)) (Err 23)
+    (cond (not (list_all permitted es)) (Err 23)
     (consistent (record_of (entry_in es))))
 
 -- what a line announces, or the number of the first check that fails

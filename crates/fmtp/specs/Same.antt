@@ -1,5 +1,5 @@
 -- When two lines say the same. Assumes nothing.
-use Rattle.std.specs.Prelude.{◌≡◌, ℕ, true, false, cond, List, [], ◌∷◌, is_some}
+use Rattle.std.specs.Prelude.{◌≡◌, ℕ, true, false, List, is_some, filter}
 use Rattle.std.specs.List.Sorted.{IsPermutation}
 use Rattle.fmtp.specs.Lines.{EntryText, entries, well_formed}
 use Rattle.fmtp.specs.Parameters.{parameter_of}
@@ -7,8 +7,7 @@ use Rattle.fmtp.specs.Reading.{too_long}
 
 -- the entries whose names are known
 abbrev pub known : List EntryText → List EntryText
-known [] = []
-known (e ∷ es) = cond (is_some (parameter_of e.name)) (e ∷ known es) (known es)
+known es = filter (λ e. is_some (parameter_of e.name)) es
 
 -- a line that is not refused for its length or for its entries
 pub record Legible (line : List ℕ) : Type 0 where

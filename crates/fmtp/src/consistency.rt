@@ -9,9 +9,9 @@ use records::{Colorimetry, Edition, Range, Record, Transfer};
 pub fn is_at_odds(record: &Record) -> bool
     ensures { result ≡ at_odds «record».now }
 {
-    let protected = matches!(record.range, Some(Range::FullProtect));
-    let wide = matches!(record.colorimetry, Colorimetry::Bt2100);
-    let of_2022 = matches!(record.edition, Edition::Of2022);
+    let protected = record.range == Some(Range::FullProtect);
+    let wide = record.colorimetry == Colorimetry::Bt2100;
+    let of_2022 = record.edition == Edition::Of2022;
     record.segmented && !record.interlace || protected && wide || of_2022 != is_new_in_2022(record)
 }
 
@@ -19,6 +19,5 @@ pub fn is_at_odds(record: &Record) -> bool
 fn is_new_in_2022(record: &Record) -> bool
     ensures { result ≡ new_in_2022 «record».now }
 {
-    matches!(record.colorimetry, Colorimetry::Alpha)
-        || matches!(record.transfer, Some(Transfer::St2115LogS3))
+    record.colorimetry == Colorimetry::Alpha || record.transfer == Some(Transfer::St2115LogS3)
 }

@@ -16,59 +16,70 @@ impl fmt::Display for Listing<'_> {
 }
 
 fn write_required<W: fmt::Write>(r: &Record, f: &mut fmt::Formatter<W>) -> fmt::Result {
-    let sampling = r.sampling.text();
-    let depth = r.depth.text();
-    let width = r.width;
-    let height = r.height;
-    let Ratio {
-        numerator,
-        denominator,
-    } = r.frame_rate;
-    let colorimetry = r.colorimetry.text();
-    let packing = r.packing.text();
-    let edition = r.edition.text();
-    writeln!(f, "sampling       {sampling}\ndepth          {depth}")?;
-    writeln!(f, "width          {width}\nheight         {height}")?;
-    if denominator == 1 {
-        writeln!(f, "exactframerate {numerator}")?;
-    } else {
-        writeln!(f, "exactframerate {numerator}/{denominator}")?;
-    }
-    writeln!(
-        f,
-        "colorimetry    {colorimetry}\nPM             {packing}\nSSN            {edition}"
-    )
+    writeln!(f, "sampling       {}", r.sampling.text())?;
+    writeln!(f, "depth          {}", r.depth.text())?;
+    writeln!(f, "width          {}", r.width)?;
+    writeln!(f, "height         {}", r.height)?;
+    writeln!(f, "exactframerate {}", FrameRate(r.frame_rate))?;
+    writeln!(f, "colorimetry    {}", r.colorimetry.text())?;
+    writeln!(f, "PM             {}", r.packing.text())?;
+    writeln!(f, "SSN            {}", r.edition.text())
 }
 
 fn write_optional<W: fmt::Write>(r: &Record, f: &mut fmt::Formatter<W>) -> fmt::Result {
-    let interlace = yes_or_no(r.interlace);
-    let segmented = yes_or_no(r.segmented);
-    let transfer = r.transfer_or_default().text();
-    let range = r.range_or_default().text();
-    let octets = r.max_udp_or_default();
     let Ratio {
         numerator,
         denominator,
     } = r.pixel_aspect_or_default();
-    let marks = (
-        mark(r.transfer.is_some()),
-        mark(r.range.is_some()),
-        mark(r.max_udp.is_some()),
-        mark(r.pixel_aspect.is_some()),
-    );
-    let (a, b, c, d) = marks;
-    writeln!(f, "interlace      {interlace}\nsegmented      {segmented}")?;
-    writeln!(f, "TCS            {transfer}{a}\nRANGE          {range}{b}")?;
+    writeln!(f, "interlace      {}", yes_or_no(r.interlace))?;
+    writeln!(f, "segmented      {}", yes_or_no(r.segmented))?;
     writeln!(
         f,
-        "MAXUDP         {octets}{c}\nPAR            {numerator}:{denominator}{d}"
+        "TCS            {}{}",
+        r.transfer_or_default().text(),
+        mark(&r.transfer)
+    )?;
+    writeln!(
+        f,
+        "RANGE          {}{}",
+        r.range_or_default().text(),
+        mark(&r.range)
+    )?;
+    writeln!(
+        f,
+        "MAXUDP         {}{}",
+        r.max_udp_or_default(),
+        mark(&r.max_udp)
+    )?;
+    writeln!(
+        f,
+        "PAR            {numerator}:{denominator}{}",
+        mark(&r.pixel_aspect)
     )
+}
+
+// A whole number of frames a second has no denominator.
+#[derive(Clone, Copy)]
+struct FrameRate(Ratio);
+
+impl fmt::Display for FrameRate {
+    fn fmt<W: fmt::Write>(&self, f: &mut fmt::Formatter<W>) -> fmt::Result {
+        let Ratio {
+            numerator,
+            denominator,
+        } = self.0;
+        if denominator == 1 {
+            write!(f, "{numerator}")
+        } else {
+            write!(f, "{numerator}/{denominator}")
+        }
+    }
 }
 
 fn yes_or_no(flag: bool) -> &'static str {
     if flag { "yes" } else { "no" }
 }
 
-fn mark(present: bool) -> &'static str {
-    if present { "" } else { " (default)" }
+fn mark<T>(value: &Option<T>) -> &'static str {
+    if value.is_some() { "" } else { " (default)" }
 }

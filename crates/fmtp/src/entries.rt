@@ -2,10 +2,12 @@
 
 ghost use Rattle.std.specs.Prelude.{◌≡◌};
 ghost use Rattle.std.specs.Option.{option_map};
-ghost use Rattle.fmtp.specs.Lines.{visible, every, entry_of, with_entry, entries, later_piece, later_fit, pieces_behind, well_formed};
-ghost use Rattle.fmtp.specs.Borrowed.{text_of, remaining};
+ghost use Rattle.std.specs.Iterator.{YieldsFirstBy, item_count};
+ghost use Rattle.std.specs.List.{list_all};
+ghost use Rattle.fmtp.specs.Lines.{visible, entry_of, entries, pieces, later_piece, well_formed};
+ghost use Rattle.fmtp.specs.Borrowed.{text_of, entries_left, piece_of, pieces_left, with_last};
 
-use crate::texts::{Split, split_at_first, without_blanks};
+use crate::texts::{split_at_first, without_blanks};
 
 /// A name alone, or a name and a value, each a part of the line.
 #[derive(Clone, Copy)]
@@ -19,20 +21,14 @@ impl<'a> Entry<'a> {
     pub fn parse(text: &'a [u8]) -> Option<Entry<'a>>
         ensures { option_map text_of result ≡ entry_of text.now }
     {
-        let Split {
-            front: name,
-            rest: value,
-        } = split_at_first(text, b'=');
+        let (name, value) = split_at_first(text, b'=');
         if !all_visible(text) || name.is_empty() {
             return None;
         }
-        let Some(value) = value else {
-            return Some(Entry::Flag(name));
-        };
-        if value.is_empty() {
-            None
-        } else {
-            Some(Entry::Pair(name, value))
+        match value {
+            None => Some(Entry::Flag(name)),
+            Some([]) => None,
+            Some(value) => Some(Entry::Pair(name, value)),
         }
     }
 
@@ -40,8 +36,7 @@ impl<'a> Entry<'a> {
         ensures { result.now ≡ (text_of self.now).name }
     {
         match *self {
-            Entry::Flag(name) => name,
-            Entry::Pair(name, _) => name,
+            Entry::Flag(name) | Entry::Pair(name, _) => name,
         }
     }
 
@@ -56,23 +51,18 @@ impl<'a> Entry<'a> {
 }
 
 fn all_visible(text: &[u8]) -> bool
-    ensures { result ≡ every visible text.now }
+    ensures { result ≡ list_all visible text.now }
 {
-    for octet in text {
-        if !is_visible(*octet) {
-            return false;
-        }
-    }
-    true
+    text.iter().all(|&octet| is_visible(octet))
 }
 
 fn is_visible(octet: u8) -> bool
     ensures { result ≡ visible octet }
 {
-    octet >= 0x21 && octet <= 0x7e && octet != b';'
+    octet.is_ascii_graphic() && octet != b';'
 }
 
-/// Hands out the entries of a line one by one.
+/// The entries of a line, one by one; it ends where the line ends or holds something else.
 #[derive(Clone, Copy)]
 pub struct Entries<'a> {
     // what stands behind the last semicolon that was passed
@@ -81,19 +71,66 @@ pub struct Entries<'a> {
 
 impl<'a> Entries<'a> {
     pub fn of(line: &'a [u8]) -> Entries<'a>
-        ensures { remaining result ≡ entries line.now }
+        ensures { entries_left result ≡ entries line.now }
     {
         Entries { rest: Some(line) }
     }
+}
 
-    /// The next entry, or nothing where the line ends or holds something else.
-    pub fn next(&mut self) -> Option<Entry<'a>>
-        ensures { remaining self.old ≡ with_entry (option_map text_of result) (remaining self.new) }
-    {
-        let text = self.rest?;
-        let Split { front, rest } = split_at_first(text, b';');
+impl<'a> Iterator for Entries<'a> {
+    type Item = Entry<'a>;
+
+    ghost next_gives = { YieldsFirstBy text_of entries_left };
+
+    ghost remaining = { item_count entries_left };
+
+    fn next(&mut self) -> Option<Entry<'a>> {
+        let (piece, rest) = split_at_first(self.rest.take()?, b';');
+        let entry = Entry::parse(without_blanks(piece))?;
         self.rest = rest;
-        Entry::parse(without_blanks(front))
+        Some(entry)
+    }
+}
+
+// What stands between two semicolons of a line.
+#[derive(Clone, Copy)]
+struct Piece<'a> {
+    text: &'a [u8],
+    is_last: bool,
+}
+
+impl Piece<'_> {
+    // Whether the piece is blanks, one at least, and then an entry; the last piece may be blanks alone, or nothing.
+    fn is_later(self) -> bool
+        ensures { result ≡ later_piece self.entry.is_last self.entry.text.now }
+    {
+        let text = without_blanks(self.text);
+        self.is_last && text.is_empty()
+            || text.len() < self.text.len() && Entry::parse(text).is_some()
+    }
+}
+
+// The pieces of a line. `Entries` does not go by them: what is no entry ends it for good, and a flag for that would say no more.
+#[derive(Clone, Copy)]
+struct Pieces<'a> {
+    // what stands behind the last semicolon that was passed
+    rest: Option<&'a [u8]>,
+}
+
+impl<'a> Iterator for Pieces<'a> {
+    type Item = Piece<'a>;
+
+    ghost next_gives = { YieldsFirstBy piece_of pieces_left };
+
+    ghost remaining = { item_count pieces_left };
+
+    fn next(&mut self) -> Option<Piece<'a>> {
+        let (text, rest) = split_at_first(self.rest?, b';');
+        self.rest = rest;
+        Some(Piece {
+            text,
+            is_last: rest.is_none(),
+        })
     }
 }
 
@@ -101,32 +138,7 @@ impl<'a> Entries<'a> {
 pub fn is_well_formed(line: &[u8]) -> bool
     ensures { result ≡ well_formed line.now }
 {
-    if line.is_empty() {
-        return true;
-    }
-    let Split { front, rest } = split_at_first(line, b';');
-    Entry::parse(front).is_some() && is_later_part(rest)
-}
-
-// Whether what stands behind a semicolon is more entries, each behind blanks, or only blanks.
-fn is_later_part(text: Option<&[u8]>) -> bool
-    ensures { result ≡ later_fit (pieces_behind (option_map (λ x. x.now) text.entry)) }
-{
-    let mut rest = text;
-    while let Some(text) = rest {
-        let Split { front, rest: more } = split_at_first(text, b';');
-        if !is_later_piece(front, more.is_none()) {
-            return false;
-        }
-        rest = more;
-    }
-    true
-}
-
-// Whether a piece is blanks, one at least, and then an entry; the last piece may be blanks alone, or nothing.
-fn is_later_piece(piece: &[u8], last: bool) -> bool
-    ensures { result ≡ later_piece last piece.now }
-{
-    let text = without_blanks(piece);
-    last && text.is_empty() || text.len() < piece.len() && Entry::parse(text).is_some()
+    let (first, rest) = split_at_first(line, b';');
+    line.is_empty()
+        || Entry::parse(first).is_some() && Pieces { rest }.all(|piece| piece.is_later())
 }

@@ -1,49 +1,38 @@
 //! Numbers in a format line: decimals without a leading zero, and ratios of two.
 
 ghost use Rattle.std.specs.Prelude.{◌≡◌, ◌<◌};
-ghost use Rattle.fmtp.specs.Decimals.{digit, decimal_of, coprime, ratio_of, rate_of};
+ghost use Rattle.std.specs.Char.{is_ascii_digit};
+ghost use Rattle.std.specs.List.{list_all};
+ghost use Rattle.fmtp.specs.Decimals.{decimal_of, coprime, ratio_of, rate_of};
 
-use crate::texts::{Split, split_at_first};
+use crate::texts::split_at_first;
 use records::Ratio;
 
 /// The number from 1 to `limit` that a text writes.
 pub fn decimal(text: &[u8], limit: u32) -> Option<u32>
     ensures { result ≡ decimal_of limit text.now }
 {
-    if text.is_empty() || text[0] == b'0' {
+    if text.starts_with(b"0") || !is_digits(text) {
         return None;
     }
-    let mut value: u64 = 0;
-    for octet in text {
-        if !is_digit(*octet) {
-            return None;
-        }
-        value = value * 10 + (*octet - b'0') as u64;
-        if value > limit as u64 {
-            return None;
-        }
-    }
-    Some(value as u32)
+    let number = str::from_utf8(text).ok()?.parse::<u32>().ok()?;
+    (number <= limit).then_some(number)
 }
 
-fn is_digit(octet: u8) -> bool
-    ensures { result ≡ digit octet }
+fn is_digits(text: &[u8]) -> bool
+    ensures { result ≡ list_all is_ascii_digit text.now }
 {
-    octet >= b'0' && octet <= b'9'
+    text.iter().all(|octet| octet.is_ascii_digit())
 }
 
 /// Two numbers from 1 to `limit` with the separator between them, and with no common divisor.
 pub fn ratio(text: &[u8], separator: u8, limit: u32) -> Option<Ratio>
     ensures { result ≡ ratio_of separator limit text.now }
 {
-    let Split { front, rest } = split_at_first(text, separator);
+    let (front, rest) = split_at_first(text, separator);
     let numerator = decimal(front, limit)?;
-    let rest = rest?;
-    let denominator = decimal(rest, limit)?;
-    if !is_coprime(numerator, denominator) {
-        return None;
-    }
-    Some(Ratio {
+    let denominator = decimal(rest?, limit)?;
+    is_coprime(numerator, denominator).then_some(Ratio {
         numerator,
         denominator,
     })
@@ -54,18 +43,12 @@ pub fn frame_rate(text: &[u8]) -> Option<Ratio>
     ensures { result ≡ rate_of text.now }
 {
     const LIMIT: u32 = 999_999;
-    if let Some(numerator) = decimal(text, LIMIT) {
-        return Some(Ratio {
+    decimal(text, LIMIT)
+        .map(|numerator| Ratio {
             numerator,
             denominator: 1,
-        });
-    }
-    let rate = ratio(text, b'/', LIMIT)?;
-    if rate.denominator > 1 {
-        Some(rate)
-    } else {
-        None
-    }
+        })
+        .or_else(|| ratio(text, b'/', LIMIT).filter(|rate| rate.denominator > 1))
 }
 
 // Whether no number above 1 divides both, by Euclid's algorithm.
@@ -77,9 +60,7 @@ fn is_coprime(a: u32, b: u32) -> bool
     let mut x = a;
     let mut y = b;
     while y != 0 {
-        let rest = x % y;
-        x = y;
-        y = rest;
+        (x, y) = (y, x % y);
     }
     x == 1
 }

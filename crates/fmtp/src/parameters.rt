@@ -7,7 +7,6 @@ ghost use Rattle.fmtp.specs.Reading.{has_name};
 
 use crate::entries::Entry;
 use crate::numbers::{decimal, frame_rate, ratio};
-use crate::texts::same;
 use crate::tokens::{Token, recognised};
 use records::{Colorimetry, Depth, Edition, PackingMode, Range, Ratio, Sampling, Transfer};
 
@@ -89,14 +88,12 @@ impl Parameter {
         match self {
             Parameter::Sampling => recognised::<Sampling>(value).is_some(),
             Parameter::Depth => recognised::<Depth>(value).is_some(),
-            Parameter::Width => size(value).is_some(),
-            Parameter::Height => size(value).is_some(),
+            Parameter::Width | Parameter::Height => size(value).is_some(),
             Parameter::FrameRate => frame_rate(value).is_some(),
             Parameter::Colorimetry => recognised::<Colorimetry>(value).is_some(),
             Parameter::Packing => recognised::<PackingMode>(value).is_some(),
             Parameter::Edition => recognised::<Edition>(value).is_some(),
-            Parameter::Interlace => false,
-            Parameter::Segmented => false,
+            Parameter::Interlace | Parameter::Segmented => false,
             Parameter::Transfer => recognised::<Transfer>(value).is_some(),
             Parameter::Range => recognised::<Range>(value).is_some(),
             Parameter::MaxUdp => max_udp(value).is_some(),
@@ -110,7 +107,7 @@ impl Entry<'_> {
     pub fn is_of(&self, parameter: Parameter) -> bool
         ensures { result ≡ has_name (parameter_text parameter) (text_of self.now) }
     {
-        same(self.name(), parameter.text().as_bytes())
+        self.name() == parameter.text().as_bytes()
     }
 }
 
@@ -138,11 +135,7 @@ pub fn size(value: &[u8]) -> Option<u32>
 pub fn max_udp(value: &[u8]) -> Option<u32>
     ensures { result ≡ max_udp_of value.now }
 {
-    if same(value, b"1460") {
-        Some(1460)
-    } else {
-        None
-    }
+    (value == b"1460".as_slice()).then_some(1460)
 }
 
 /// Width and height of a pixel.

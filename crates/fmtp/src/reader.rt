@@ -1,22 +1,20 @@
 //! Reads a format line: the checks, each over the whole line, and the record.
 
-ghost use Rattle.std.specs.Prelude.{◌≡◌, ℕ, List, nat_lt};
+ghost use Rattle.std.specs.Prelude.{◌≡◌, ℕ, List, nat_lt, count_by};
+ghost use Rattle.std.specs.List.{list_all};
 ghost use Rattle.std.specs.Option.{option_map};
 ghost use Rattle.refusals.specs.Numbers.{numbered};
-ghost use Rattle.fmtp.specs.Borrowed.{text_of, remaining};
-ghost use Rattle.fmtp.specs.Decimals.{then, rate_of};
+ghost use Rattle.fmtp.specs.Borrowed.{text_of, entries_left};
 ghost use Rattle.fmtp.specs.Same.{SameParameters};
-ghost use Rattle.fmtp.specs.Spellings.{spelled};
-ghost use Rattle.fmtp.specs.Parameters.{parameter_text, size_of, max_udp_of, aspect_of};
-ghost use Rattle.fmtp.specs.declared.parameters.Parameter.TheVariants.{FrameRate, MaxUdp, PixelAspect};
-ghost use Rattle.fmtp.specs.Reading.{times, repeated, all_permitted, entry_in, value_of, flagged, record_of, reading_entries, reading};
+ghost use Rattle.fmtp.specs.Parameters.{parameter_text, permitted};
+ghost use Rattle.fmtp.specs.Reading.{has_name, repeated, entry_in, value_of as parameter_value, flagged, record_of, reading_entries, reading};
 
 use crate::consistency::is_at_odds;
 use crate::entries::{Entries, Entry, is_well_formed};
 use crate::numbers::frame_rate;
 use crate::parameters::{Parameter, is_permitted, max_udp, pixel_aspect, size};
 use crate::tokens::{Token, recognised};
-use records::{Ratio, Record};
+use records::Record;
 use refusals::Refusal;
 
 /// The longest line that is read, in octets.
@@ -39,7 +37,7 @@ pub fn read(line: &[u8]) -> Result<Record, Refusal>
 
 // The checks of the entries, and the record.
 fn read_entries(entries: Entries) -> Result<Record, Refusal>
-    ensures { numbered result ≡ reading_entries (remaining entries.entry) }
+    ensures { numbered result ≡ reading_entries (entries_left entries.entry) }
 {
     if is_repetitive(entries) {
         return Err(Refusal::NameRepeated);
@@ -47,9 +45,7 @@ fn read_entries(entries: Entries) -> Result<Record, Refusal>
     if !is_all_permitted(entries) {
         return Err(Refusal::ValueNotPermitted);
     }
-    let Some(record) = record_from(entries) else {
-        return Err(Refusal::NameMissing);
-    };
+    let record = record_from(entries).ok_or(Refusal::NameMissing)?;
     if is_at_odds(&record) {
         return Err(Refusal::NamesAtOdds);
     }
@@ -58,120 +54,74 @@ fn read_entries(entries: Entries) -> Result<Record, Refusal>
 
 // Whether a known name comes twice.
 fn is_repetitive(entries: Entries) -> bool
-    ensures { result ≡ repeated (remaining entries.entry) }
+    ensures { result ≡ repeated (entries_left entries.entry) }
 {
-    let all = Parameter::all();
-    for parameter in all {
-        if is_twice(entries, *parameter) {
-            return true;
-        }
-    }
-    false
+    Parameter::all()
+        .iter()
+        .any(|&parameter| is_twice(entries, parameter))
 }
 
 fn is_twice(entries: Entries, parameter: Parameter) -> bool
-    ensures { result ≡ nat_lt 1 (times (parameter_text parameter) (remaining entries.entry)) }
+    ensures { result ≡ nat_lt 1 (count_by (has_name (parameter_text parameter)) (entries_left entries.entry)) }
 {
-    let mut rest = entries;
-    let mut seen = false;
-    while let Some(entry) = rest.next() {
-        if entry.is_of(parameter) {
-            if seen {
-                return true;
-            }
-            seen = true;
-        }
-    }
-    false
+    entries
+        .filter(|entry| entry.is_of(parameter))
+        .nth(1)
+        .is_some()
 }
 
 // Whether every known name has a value that it may have.
-fn is_all_permitted(entries: Entries) -> bool
-    ensures { result ≡ all_permitted (remaining entries.entry) }
+fn is_all_permitted(mut entries: Entries) -> bool
+    ensures { result ≡ list_all permitted (entries_left entries.entry) }
 {
-    let mut rest = entries;
-    while let Some(entry) = rest.next() {
-        if !is_permitted(&entry) {
-            return false;
-        }
+    entries.all(|entry| is_permitted(&entry))
+}
+
+impl<'a> Entries<'a> {
+    // The first entry of a name.
+    fn entry_of(mut self, parameter: Parameter) -> Option<Entry<'a>>
+        ensures { option_map text_of result ≡ entry_in (entries_left self.entry) parameter }
+    {
+        self.find(|entry| entry.is_of(parameter))
     }
-    true
-}
 
-// The first entry of a name.
-fn find_entry<'a>(entries: Entries<'a>, parameter: Parameter) -> Option<Entry<'a>>
-    ensures { option_map text_of result ≡ entry_in (remaining entries.entry) parameter }
-{
-    let mut rest = entries;
-    while let Some(entry) = rest.next() {
-        if entry.is_of(parameter) {
-            return Some(entry);
-        }
+    // The value of a parameter.
+    fn value_of(self, parameter: Parameter) -> Option<&'a [u8]>
+        ensures { option_map (λ x. x.now) result ≡ parameter_value parameter (entry_in (entries_left self.entry)) }
+    {
+        self.entry_of(parameter)?.value()
     }
-    None
-}
 
-fn value_of<'a>(entries: Entries<'a>, parameter: Parameter) -> Option<&'a [u8]>
-    ensures { option_map (λ x. x.now) result ≡ value_of parameter (entry_in (remaining entries.entry)) }
-{
-    find_entry(entries, parameter)?.value()
-}
-
-fn is_flagged(entries: Entries, parameter: Parameter) -> bool
-    ensures { result ≡ flagged parameter (entry_in (remaining entries.entry)) }
-{
-    find_entry(entries, parameter).is_some()
-}
-
-// The value of a parameter that is spelled as one of a list of texts.
-fn token<T: Token + 'static>(entries: Entries, parameter: Parameter) -> Option<T>
-    ensures { result ≡ then (value_of parameter (entry_in (remaining entries.entry))) (spelled T.Token.spelling T.Token.values) }
-{
-    recognised(value_of(entries, parameter)?)
-}
-
-fn size_of(entries: Entries, parameter: Parameter) -> Option<u32>
-    ensures { result ≡ then (value_of parameter (entry_in (remaining entries.entry))) size_of }
-{
-    size(value_of(entries, parameter)?)
-}
-
-fn frame_rate_of(entries: Entries) -> Option<Ratio>
-    ensures { result ≡ then (value_of FrameRate (entry_in (remaining entries.entry))) rate_of }
-{
-    frame_rate(value_of(entries, Parameter::FrameRate)?)
-}
-
-fn max_udp_of(entries: Entries) -> Option<u32>
-    ensures { result ≡ then (value_of MaxUdp (entry_in (remaining entries.entry))) max_udp_of }
-{
-    max_udp(value_of(entries, Parameter::MaxUdp)?)
-}
-
-fn pixel_aspect_of(entries: Entries) -> Option<Ratio>
-    ensures { result ≡ then (value_of PixelAspect (entry_in (remaining entries.entry))) aspect_of }
-{
-    pixel_aspect(value_of(entries, Parameter::PixelAspect)?)
+    // Whether a flag is there.
+    fn has(self, flag: Parameter) -> bool
+        ensures { result ≡ flagged flag (entry_in (entries_left self.entry)) }
+    {
+        self.entry_of(flag).is_some()
+    }
 }
 
 // The record that entries give, unless a required one is missing.
 fn record_from(entries: Entries) -> Option<Record>
-    ensures { result ≡ record_of (entry_in (remaining entries.entry)) }
+    ensures { result ≡ record_of (entry_in (entries_left entries.entry)) }
 {
     Some(Record {
-        sampling: token(entries, Parameter::Sampling)?,
-        depth: token(entries, Parameter::Depth)?,
-        width: size_of(entries, Parameter::Width)?,
-        height: size_of(entries, Parameter::Height)?,
-        frame_rate: frame_rate_of(entries)?,
-        colorimetry: token(entries, Parameter::Colorimetry)?,
-        packing: token(entries, Parameter::Packing)?,
-        edition: token(entries, Parameter::Edition)?,
-        interlace: is_flagged(entries, Parameter::Interlace),
-        segmented: is_flagged(entries, Parameter::Segmented),
-        transfer: token(entries, Parameter::Transfer),
-        range: token(entries, Parameter::Range),
-        max_udp: max_udp_of(entries),
-        pixel_aspect: pixel_aspect_of(entries),
+        sampling: entries.value_of(Parameter::Sampling).and_then(recognised)?,
+        depth: entries.value_of(Parameter::Depth).and_then(recognised)?,
+        width: entries.value_of(Parameter::Width).and_then(size)?,
+        height: entries.value_of(Parameter::Height).and_then(size)?,
+        frame_rate: entries.value_of(Parameter::FrameRate).and_then(frame_rate)?,
+        colorimetry: entries
+            .value_of(Parameter::Colorimetry)
+            .and_then(recognised)?,
+        packing: entries.value_of(Parameter::Packing).and_then(recognised)?,
+        edition: entries.value_of(Parameter::Edition).and_then(recognised)?,
+        interlace: entries.has(Parameter::Interlace),
+        segmented: entries.has(Parameter::Segmented),
+        transfer: entries.value_of(Parameter::Transfer).and_then(recognised),
+        range: entries.value_of(Parameter::Range).and_then(recognised),
+        max_udp: entries.value_of(Parameter::MaxUdp).and_then(max_udp),
+        pixel_aspect: entries
+            .value_of(Parameter::PixelAspect)
+            .and_then(pixel_aspect),
     })
 }

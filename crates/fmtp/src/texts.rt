@@ -1,55 +1,36 @@
-//! Octet texts: comparing them, splitting them at an octet, and passing over blanks.
+//! Octet texts: splitting them at an octet, and passing over blanks.
 
-ghost use Rattle.std.specs.Prelude.{◌≡◌};
+ghost use Rattle.std.specs.Prelude.{◌≡◌, ◌==◌, position};
 ghost use Rattle.std.specs.Option.{option_map};
-ghost use Rattle.std.specs.Str.{bytes_eq};
 ghost use Rattle.fmtp.specs.Lines.{before, behind, blank, trimmed};
 
-/// The octets in front of a separator and, where it stands in the text, those behind it.
-pub struct Split<'a> {
-    pub front: &'a [u8],
-    pub rest: Option<&'a [u8]>,
+/// The octets in front of the first `separator` and, where it stands in the text, those behind it.
+pub fn split_at_first(text: &[u8], separator: u8) -> (&[u8], Option<&[u8]>)
+    ensures front { result.0.now ≡ before separator text.now }
+    ensures rest { option_map (λ x. x.now) result.1 ≡ behind separator text.now }
+{
+    match place_of(text, separator) {
+        Some(i) => (&text[..i], Some(&text[i + 1..])),
+        None => (text, None),
+    }
 }
 
-pub fn same(a: &[u8], b: &[u8]) -> bool
-    ensures { result ≡ bytes_eq a.now b.now }
+fn place_of(text: &[u8], octet: u8) -> Option<usize>
+    ensures { result ≡ position (λ x. x == octet) text.now }
 {
-    a == b
-}
-
-/// Splits a text at the first `separator`.
-pub fn split_at_first(text: &[u8], separator: u8) -> Split<'_>
-    ensures front { result.front.now ≡ before separator text.now }
-    ensures rest { option_map (λ x. x.now) result.rest ≡ behind separator text.now }
-{
-    for (i, octet) in text.iter().enumerate() {
-        if *octet == separator {
-            return Split {
-                front: &text[0..i],
-                rest: Some(&text[i + 1..]),
-            };
-        }
-    }
-    Split {
-        front: text,
-        rest: None,
-    }
+    text.iter().position(|&x| x == octet)
 }
 
 fn is_blank(octet: u8) -> bool
     ensures { result ≡ blank octet }
 {
-    octet == b' ' || octet == b'\t'
+    matches!(octet, b' ' | b'\t')
 }
 
 /// The text from its first octet on that is no blank.
 pub fn without_blanks(text: &[u8]) -> &[u8]
     ensures { result.now ≡ trimmed text.now }
 {
-    for (i, octet) in text.iter().enumerate() {
-        if !is_blank(*octet) {
-            return &text[i..];
-        }
-    }
-    &[]
+    let blanks = text.iter().take_while(|octet| is_blank(**octet)).count();
+    &text[blanks..]
 }

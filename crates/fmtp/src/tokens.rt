@@ -3,8 +3,7 @@
 ghost use Rattle.std.specs.Prelude.{◌≡◌, ℕ, List};
 ghost use Rattle.fmtp.specs.Spellings.{spelled};
 
-use crate::texts::same;
-
+// Not one list of pairs: `text` would then be a search that could miss, where a `match` names every value.
 pub trait Token: Copy {
     ghost spelling: { Self → List ℕ };
 
@@ -23,11 +22,8 @@ pub trait Token: Copy {
 pub fn recognised<T: Token + 'static>(text: &[u8]) -> Option<T>
     ensures { result ≡ spelled T.Token.spelling T.Token.values text.now }
 {
-    let all = T::all();
-    for value in all {
-        if same(value.text().as_bytes(), text) {
-            return Some(*value);
-        }
-    }
-    None
+    T::all()
+        .iter()
+        .find(|value| value.text().as_bytes() == text)
+        .copied()
 }

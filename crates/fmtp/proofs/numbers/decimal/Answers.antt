@@ -1,21 +1,22 @@
-use Rattle.std.proofs.Common.{sym}
-use Rattle.fmtp.proofs.Decimal.{sofar_more, no_digit, over_limit, all_read}
+use Rattle.std.proofs.Common.{sym, ◌∙◌, rules}
+use Rattle.fmtp.proofs.Decimal.{some_text, read}
 use Rattle.fmtp.proofs.numbers.decimal.Goals as goal
 
-pub returns-then-not-is_digit : goal.returns-then-not-is_digit
-returns-then-not-is_digit c = no_digit _ _ _ _ c.loop-octet-test.true (sym c.if-not-is_digit.ensures) c.loop-octet.invariant.0
+pub returns-in_err-ok : goal.returns-in_err-ok
+returns-in_err-ok c =
+    absurd (some_text _ c.args.text.now c.from_utf8.result c.from_utf8.ensures.cases (sym c.if-not-is_digits.ensures)
+    (sym c.ok.ensures.value ∙ c.in_err-ok.was))
 
-pub returns-then-value-limit : goal.returns-then-value-limit
-returns-then-value-limit c =
-    let more = sofar_more _ _ _ c.loop-octet-test.true (sym c.if-not-is_digit.ensures) c.loop-octet.invariant.0 in
-    over_limit _ _ _ _ more c.if-value-limit.true
-
-pub loop-octet-preserved : goal.loop-octet-preserved
-loop-octet-preserved c = (
-  sofar_more _ _ _ c.loop-octet-test.true (sym c.if-not-is_digit.ensures) c.loop-octet.invariant.0,
-  c.if-value-limit.false,
-)
+pub returns-in_err-number : goal.returns-in_err-number
+returns-in_err-number c =
+    c.from_residual-in_err-number.ensures
+    ∙ read _ c.args.text.now c.from_utf8.result c.from_utf8.ensures.cases (sym c.if-not-is_digits.ensures) c.args.limit (search rules)
+    (sym c.if-starts_with.ensures.value) c.in_ok-ok.field-0
+    (sym c.ok.ensures.value ∙ c.in_ok-ok.was) c.parse.result c.parse.ensures.value.0 _ (sym c.ok-2.ensures.value ∙ c.in_err-number.was)
 
 pub returns : goal.returns
 returns c =
-    all_read _ _ _ _ c.if-is_empty.ensures c.if-text-eq48.false c.loop-octet-test.false c.loop-octet.invariant.0 c.loop-octet.invariant.1
+    c.then_some.ensures
+    ∙ read _ c.args.text.now c.from_utf8.result c.from_utf8.ensures.cases (sym c.if-not-is_digits.ensures) c.args.limit (search rules)
+    (sym c.if-starts_with.ensures.value) c.in_ok-ok.field-0
+    (sym c.ok.ensures.value ∙ c.in_ok-ok.was) c.parse.result c.parse.ensures.value.0 _ (sym c.ok-2.ensures.value ∙ c.in_ok-number.was)

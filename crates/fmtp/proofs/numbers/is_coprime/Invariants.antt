@@ -1,10 +1,10 @@
-use Rattle.std.proofs.Common.{◌≡◌, ℕ, ◌<◌}
-use Rattle.fmtp.specs.Decimals.{divides_both}
+use Rattle.std.proofs.Common.{ℕ}
+use Rattle.std.specs.Int.{IsGcd}
 use Rattle.fmtp.proofs.numbers.is_coprime.Given as goal
 
--- x and y have the common divisors of a and b
+-- the greatest common divisor of x and y is that of a and b
 abbrev pub invariant-loop-y : goal.invariant-loop-y
-invariant-loop-y l = (0 < l.x) × ((k : ℕ) → divides_both l.x l.y k ≡ divides_both l.a l.b k)
+invariant-loop-y l = (g : ℕ) → IsGcd l.x l.y g → IsGcd l.a l.b g
 
 abbrev pub decreases-loop-y : goal.decreases-loop-y
 decreases-loop-y l = l.y

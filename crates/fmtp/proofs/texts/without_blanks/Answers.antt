@@ -1,15 +1,16 @@
-use Rattle.std.proofs.Common.{sym, ◌∙◌}
-use Rattle.std.proofs.lemmas.List.{take_rest, at_drop_all}
-use Rattle.fmtp.specs.Lines.{trimmed}
-use Rattle.fmtp.proofs.Searching.{trimmed_more, trimmed_found}
+use Rattle.std.proofs.Common.{drop, ap, ◌∙◌, rules, tests}
+use Rattle.std.proofs.lemmas.List.{take_rest}
+use Rattle.std.proofs.lemmas.List.Folds.{length-prefix_len}
+use Rattle.std.proofs.lemmas.Iterator.{YieldsList-from_slice}
+use Rattle.std.proofs.lemmas.Iterator.Search.{YieldsList-from_take_while}
+use Rattle.std.proofs.lemmas.Iterator.Consumers.{YieldsList-at, count_from_yields_List}
+use Rattle.fmtp.specs.Lines.{blank}
 use Rattle.fmtp.proofs.texts.without_blanks.Goals as goal
 
-pub returns-then-not-is_blank : goal.returns-then-not-is_blank
-returns-then-not-is_blank c =
-    take_rest c.args.text.now c.loop-i.i ∙ sym (c.loop-i.invariant ∙ trimmed_found _ _ c.loop-i-test.true (sym c.if-not-is_blank.ensures))
-
-pub loop-i-preserved : goal.loop-i-preserved
-loop-i-preserved c = c.loop-i.invariant ∙ trimmed_more _ _ c.loop-i-test.true (sym c.if-not-is_blank.ensures)
-
 pub returns : goal.returns
-returns c = sym (c.loop-i.invariant ∙ at_drop_all trimmed _ _ c.loop-i-test.false)
+returns c =
+    let text = c.args.text.now in
+    let count = count_from_yields_List c.take_while.result c.count-blanks.result c.count-blanks.ensures.ran
+    (YieldsList-from_take_while _ blank (YieldsList-at c.take_while.ensures.source (YieldsList-from_slice text cc))
+    c.take_while.ensures.closure c.take_while.ensures.done (λ x b q k. search (rules, tests))) in
+    take_rest text c.count-blanks.result ∙ ap (λ n. drop n text) (count ∙ length-prefix_len blank text)
