@@ -2,17 +2,35 @@
 use Rattle.std.proofs.Common.{◌≡◌, ℕ, Bool, true, false, cond, not, List, is_ok, Some, None, Ok, Err, Option, Result, refl, ap, ◌∙◌, arith}
 use Rattle.std.proofs.lemmas.Bool.{both_ways}
 use Rattle.refusals.specs.declared.Refusal.{Refusal}
-use Rattle.theory.specs.Answers.{first_row}
+use Rattle.theory.specs.Answers.{first_row, unless, verdict}
 use Rattle.theory.specs.Layouts.{LawfulKind}
 use Rattle.theory.specs.Formats.{Part, lawful_format}
 use Rattle.theory.specs.Packets.{packet_rows}
+use Rattle.formats.specs.Meaning.{format_check}
 use Rattle.theory.specs.Naming.{SoundNaming}
 use Rattle.theory.proofs.Naming.{sound_naming}
 use Rattle.packets.specs.declared.packet.Packet.{Packet}
-use Rattle.packets.specs.Reading.{Carried, carried, unless, reading_refusal, reading_check, reading}
+use Rattle.packets.specs.Reading.{Carried, carried, reading_refusal, packet_check, reading_check, reading}
 use Rattle.packets.specs.Carried.{carried_by, carries, outcome}
 
 module _ (t : Part) (q : List ℕ) where
+  -- row 4 is the first of the table
+  pub limits_refuse : (n : ℕ) → Err n ≡ format_check t.format → Err n ≡ reading_check t q
+  limits_refuse n = go (lawful_format t.format) (first_row (packet_rows t q))
+    where
+      go : (b : Bool) (o : Option ℕ) → ◌≡◌ {A = Result (Unit {0}) ℕ} (Err n) (cond b (Ok tt) (Err 4))
+          → ◌≡◌ {A = Result (Unit {0}) ℕ} (Err n) (verdict (cond (not b) (Some 4) o))
+      go true o e = absurd (let z : ◌≡◌ {A = ℕ} 0 1 = cc in omega arith)
+      go false o e = e
+
+  pub limits_pass : Ok tt ≡ format_check t.format → packet_check t q ≡ reading_check t q
+  limits_pass = go (lawful_format t.format) (first_row (packet_rows t q))
+    where
+      go : (b : Bool) (o : Option ℕ) → ◌≡◌ {A = Result (Unit {0}) ℕ} (Ok tt) (cond b (Ok tt) (Err 4))
+          → verdict o ≡ verdict (cond (not b) (Some 4) o)
+      go true o e = refl
+      go false o e = absurd (let z : ◌≡◌ {A = ℕ} 0 1 = cc in omega arith)
+
   pub refused : (n : ℕ) → Err n ≡ reading_check t q → Err n ≡ reading t q
   refused n = go (reading_refusal t q)
     where
