@@ -24,14 +24,19 @@ impl<'a> Fields<'a> {
         requires { at < 2 ^ 32 }
         ensures { result ≡ octets.number16 self.now.octets.now at }
     {
-        u16::from(self.octet(at)) * 256 + u16::from(self.octet(at + 1))
+        u16::from_be_bytes([self.octet(at), self.octet(at + 1)])
     }
 
     fn number32(&self, at: usize) -> u32
         requires { at < 2 ^ 31 }
         ensures { result ≡ octets.number32 self.now.octets.now at }
     {
-        u32::from(self.number16(at)) * 65536 + u32::from(self.number16(at + 2))
+        u32::from_be_bytes([
+            self.octet(at),
+            self.octet(at + 1),
+            self.octet(at + 2),
+            self.octet(at + 3),
+        ])
     }
 
     pub(crate) fn version(&self) -> u8
