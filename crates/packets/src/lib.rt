@@ -4,14 +4,13 @@
 //! A packet that is not refused names groups of the part only, each at most once, and all their octets lie in it.
 #![tactic(auto)]
 
-mod checks;
-mod division;
 mod fields;
 mod headers;
+mod offer;
 mod packet;
 mod reader;
+mod row_header;
 mod segments;
-mod table;
 
 pub use packet::{Packet, Segment};
 pub use segments::Segments;
