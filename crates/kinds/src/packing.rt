@@ -147,7 +147,9 @@ pub fn unpack<K: GroupKind>(kind: &K, depth: u8, group: &[u8], k: usize) -> u16
     ensures { result ≡ unpacked ((K.GroupKind.kind kind.now).layout depth) depth group.now k }
 {
     match Packing::new(kind, depth) {
-        Some(p) if group.len() == p.octets && k < p.positions => p.sample(group, k),
+        Some(packing) if group.len() == packing.octets && k < packing.positions => packing.sample(
+            group, k,
+        ),
         _ => 0,
     }
 }
@@ -159,8 +161,8 @@ pub fn unpack_all<K: GroupKind>(kind: &K, depth: u8, group: &[u8], samples: &mut
     ensures back { result ≡ true → octets_of_samples ((K.GroupKind.kind kind.now).layout depth) depth samples.new ≡ group.now }
 {
     match Packing::new(kind, depth) {
-        Some(p) if group.len() == p.octets && samples.len() == p.positions => {
-            p.read(group, samples);
+        Some(packing) if group.len() == packing.octets && samples.len() == packing.positions => {
+            packing.read(group, samples);
             true
         }
         _ => false,
@@ -174,8 +176,8 @@ pub fn pack<K: GroupKind>(kind: &K, depth: u8, samples: &[u16], group: &mut [u8]
     ensures back { result ≡ true → ReadsBack ((K.GroupKind.kind kind.now).layout depth) depth samples.now group.new }
 {
     match Packing::new(kind, depth) {
-        Some(p) if group.len() == p.octets && p.takes(samples) => {
-            p.write(samples, group);
+        Some(packing) if group.len() == packing.octets && packing.takes(samples) => {
+            packing.write(samples, group);
             true
         }
         _ => false,

@@ -8,7 +8,7 @@ use Rattle.kinds.proofs.Tested.{under_decides}
 use Rattle.kinds.proofs.packing.pack.Goals as goal
 
 pub write-requires-clause-small : goal.write-requires-clause-small
-write-requires-clause-small g c = (under_decides (2 ^ c.in-Some.p.depth) c.args.samples.now).0 (and_parts _ _ (sym c.if-takes.ensures)).1
+write-requires-clause-small g c = (under_decides (2 ^ c.in-Some.packing.depth) c.args.samples.now).0 (and_parts _ _ (sym c.if-takes.ensures)).1
 
 pub returns-in-Some-clause-back : goal.returns-in-Some-clause-back
 returns-in-Some-clause-back g c _ =
