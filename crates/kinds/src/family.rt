@@ -64,6 +64,7 @@ pub(crate) trait Family {
 }
 
 /// How many columns, or rows, of the part there are to one of a plane, where there are so many to one of each plane but the first.
+#[inline]
 fn step_of<F: Family>(depth: u8, plane: usize, others: usize) -> usize
     ensures { result ≡ cond (nat_lt 0 (F.kind.layout depth).columns && nat_lt plane F.PLANES) (cond (plane == 0) 1 others) 0 }
 {
@@ -77,6 +78,7 @@ fn step_of<F: Family>(depth: u8, plane: usize, others: usize) -> usize
 }
 
 /// The place of position `k`; 0 throughout if there is no such position.
+#[inline]
 fn place_at<F: Family>(depth: u8, k: usize) -> Place
     ensures plane { result.plane ≡ (F.kind.layout depth).plane k }
     ensures row { result.row ≡ (F.kind.layout depth).row k }

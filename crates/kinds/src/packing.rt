@@ -33,6 +33,7 @@ impl Digit for u16 {
 }
 
 /// The number that a few digits of `width` bits write.
+#[inline]
 fn number<T: Digit>(digits: &[T], width: usize) -> u64
     requires bits { width ≤ 16 }
     requires few { width * length digits.now ≤ 64 }
@@ -42,7 +43,9 @@ fn number<T: Digit>(digits: &[T], width: usize) -> u64
     digits.iter().fold(0, |n, digit| n << width | digit.value())
 }
 
-/// Of digits of `width` bits, the `count` bits from bit `start` on.
+/// Of digits of `width` bits, the `count` bits from bit `start` on. Inlined, so that octets, and samples of a depth that is known, are found
+/// by shifts and not by division.
+#[inline(always)]
 fn bits<T: Digit>(digits: &[T], width: usize, start: usize, count: usize) -> u64
     requires width { (0 < width) × (width ≤ 16) }
     requires count { count ≤ 16 }

@@ -1,6 +1,6 @@
 //! The kinds of the standard, one for each sampling family.
 
-ghost use Rattle.std.specs.Prelude.{◌≡◌, ◌%◌, ◌/◌, ◌<◌, length, slice_index, true, false, [], ◌∷◌, refl};
+ghost use Rattle.std.specs.Prelude.{◌≡◌, true, false, [], ◌∷◌, refl};
 ghost use Rattle.theory.specs.Kinds.{full_layout, half_layout, key, key_layout, quarter_layout, rgb, xyz, ycc420, ycc422, ycc444};
 ghost use Rattle.theory.proofs.Lawfulness.{standard_kinds};
 ghost use Rattle.kinds.specs.Laws.{lawful_full, follows_deep, follows_full, follows_half, follows_key, follows_quarter};
@@ -43,20 +43,6 @@ fn full_columns(depth: u8) -> usize
     }
 }
 
-/// The place of position `k` where the samples of each column stand in this order of planes.
-fn in_turn(order: &[usize], k: usize) -> Place
-    requires { 0 < length order.now }
-    ensures plane { result.plane ≡ slice_index order.now (k % length order.now) }
-    ensures row { result.row ≡ 0 }
-    ensures column { result.column ≡ k / length order.now }
-{
-    Place {
-        plane: order[k % order.len()],
-        row: 0,
-        column: k / order.len(),
-    }
-}
-
 impl Family for Ycc444 {
     const PLANES: usize = 3;
 
@@ -93,7 +79,16 @@ impl Family for Ycc444 {
     }
 
     fn place(k: usize) -> Place {
-        in_turn(&[1, 0, 2], k)
+        let plane = match k % 3 {
+            0 => 1,
+            1 => 0,
+            _ => 2,
+        };
+        Place {
+            plane,
+            row: 0,
+            column: k / 3,
+        }
     }
 }
 
@@ -133,7 +128,11 @@ impl Family for Rgb {
     }
 
     fn place(k: usize) -> Place {
-        in_turn(&[0, 1, 2], k)
+        Place {
+            plane: k % 3,
+            row: 0,
+            column: k / 3,
+        }
     }
 }
 
@@ -320,6 +319,10 @@ impl Family for Key {
     }
 
     fn place(k: usize) -> Place {
-        in_turn(&[0], k)
+        Place {
+            plane: 0,
+            row: 0,
+            column: k,
+        }
     }
 }
