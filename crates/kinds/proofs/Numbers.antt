@@ -1,18 +1,18 @@
--- Folding digits into a number.
-use Rattle.std.proofs.Common.{◌≡◌, ℕ, ◌+◌, ◌*◌, ◌%◌, ◌^◌, ◌<◌, ◌≤◌, List, [], ◌∷◌, map, length, refl, ap, ◌∙◌, mul-suc, mul-le-mul_right, add-mul, one-mul, arith}
+-- The step of a loop that reads digits into a number.
+use Rattle.std.proofs.Common.{◌≡◌, ℕ, ◌+◌, ◌*◌, ◌%◌, ◌^◌, ◌<◌, ◌≤◌, List, length, get_or, take, sym, ap, ◌∙◌, mul-le-mul_left, mul-suc, arith, length-take-le}
 use lib.Bits.{bit_or}
-use Rattle.std.specs.List.{fold}
-use Rattle.std.specs.Int.Digits.{number_from_digits_after, AllBelowBase}
-use Rattle.std.proofs.lemmas.Nat.{shl_whole, or_shifted, pow-add}
+use Rattle.std.specs.Int.Digits.{number_from_digits, AllBelowBase}
+use Rattle.std.proofs.lemmas.Nat.{shl_whole, or_shifted}
+use Rattle.std.proofs.lemmas.Int.Digits.{number_lt, number_more}
+use Rattle.std.proofs.ByRecursion.{All-take, All-get_or}
+use Rattle.theory.proofs.Fields.{pow_mul}
 
--- digits of a bits behind a number of k bits, in a number of w bits
-pub fold_number : {T : Type 0} (value : T → ℕ) (a w n k : ℕ) (ds : List T) → n < 2 ^ k → k + a * length ds ≤ w → AllBelowBase (2 ^ a) (map value ds)
-    → fold (λ m d. bit_or ((m * 2 ^ a) % 2 ^ w) (value d)) n ds ≡ number_from_digits_after (2 ^ a) n (map value ds)
-fold_number {T} value a w n k [] small room under = refl
-fold_number {T} value a w n k (d ∷ ds) small room under =
-    let f : ℕ → T → ℕ = λ m d. bit_or ((m * 2 ^ a) % 2 ^ w) (value d) in
-    let longer : a * length (d ∷ ds) ≡ a * length ds + a = mul-suc a (length ds) in
-    let fits : k + a ≤ w = omega (arith, longer) in
-    let step : f n d ≡ n * 2 ^ a + value d = ap (λ x. bit_or x (value d)) (shl_whole n k a w small fits) ∙ or_shifted n a (value d) under.0 in
-    let below : n * 2 ^ a + value d < 2 ^ (k + a) = omega (arith, under.0, mul-le-mul_right (2 ^ a) small, add-mul n 1 (2 ^ a), one-mul (2 ^ a), pow-add 2 k a) in
-    ap (λ m. fold f m ds) step ∙ fold_number value a w (n * 2 ^ a + value d) (k + a) ds below (omega (arith, longer)) under.1
+-- digits of a bits, a number of w bits
+pub number_step : (a w : ℕ) (ds : List ℕ) (i n d : ℕ) → AllBelowBase (2 ^ a) ds → i < length ds → a * length ds ≤ w → n ≡ number_from_digits (2 ^ a) (take i ds) → d ≡ get_or ds i 0
+    → bit_or ((n * 2 ^ a) % 2 ^ w) d ≡ number_from_digits (2 ^ a) (take (i + 1) ds)
+number_step a w ds i n d under h room en ed =
+    let below : n < 2 ^ (a * i) = rw en (rw (length-take-le i ds (omega arith), pow_mul a i) at (number_lt (2 ^ a) (take i ds) (All-take (λ d. d < 2 ^ a) i ds under))) in
+    let digit : d < 2 ^ a = rw ed (All-get_or (λ d. d < 2 ^ a) ds i 0 h under) in
+    let fits : a * i + a ≤ w = omega (arith, mul-suc a i, mul-le-mul_left a h) in
+    let sum : n * 2 ^ a + d ≡ number_from_digits (2 ^ a) (take (i + 1) ds) = rw (en, ed) (sym (number_more (2 ^ a) ds i h)) in
+    ap (λ x. bit_or x d) (shl_whole n (a * i) a w below fits) ∙ or_shifted n a d digit ∙ sum

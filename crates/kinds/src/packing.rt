@@ -40,7 +40,11 @@ fn number<T: Digit>(digits: &[T], width: usize) -> u64
     requires small { AllBelowBase (2 ^ width) (map T.value digits.now) }
     ensures { result ≡ number_from_digits (2 ^ width) (map T.value digits.now) }
 {
-    digits.iter().fold(0, |n, digit| n << width | digit.value())
+    let mut n = 0;
+    for digit in digits {
+        n = n << width | digit.value();
+    }
+    n
 }
 
 /// Of digits of `width` bits, the `count` bits from bit `start` on. Inlined, so that octets, and samples of a depth that is known, are found

@@ -1,10 +1,14 @@
-use Rattle.std.proofs.Common.{rules, ◌≡◌, ◌*◌, ◌%◌, ◌^◌, ◌∙◌, bit_or, arith, lit<}
-use Rattle.std.specs.List.{fold}
-use Rattle.std.proofs.iter.runs.Made.{chains}
-use Rattle.kinds.proofs.Numbers.{fold_number}
+use Rattle.std.proofs.Common.{◌≡◌, ◌*◌, ◌<◌, ◌≤◌, length, map, get_or, sym, ap, ◌∙◌, arith}
+use Rattle.std.proofs.lemmas.List.{length-map, get_or-map}
+use Rattle.kinds.proofs.Numbers.{number_step}
 use Rattle.kinds.proofs.packing.number.Goals as goal
 
-pub returns : goal.returns
-returns g c =
-    let folded : c.fold.result ≡ fold (λ n d. bit_or ((n * 2 ^ c.args.width) % 2 ^ 64) (g.T.Digit.value d)) 0 c.args.digits.now = search (rules, chains) in
-    folded ∙ fold_number g.T.Digit.value c.args.width 64 0 0 c.args.digits.now (lit< tt) (omega arith) c.requires.small
+pub loop-digit-preserved : goal.loop-digit-preserved
+loop-digit-preserved g c =
+    let value = g.T.Digit.value in
+    let ds = c.args.digits.now in
+    let i = c.loop-digit.digit-index in
+    let same = length-map ds value in
+    let digit : c.value.result ≡ get_or (map value ds) i 0 = c.value.ensures ∙ ap value c.digit-item.is ∙ sym (get_or-map value ds i c.digit-item.result 0 c.loop-digit-test.true) in
+    number_step c.args.width 64 (map value ds) i c.loop-digit.n c.value.result
+    c.requires.small (omega (arith, same, c.loop-digit-test.true)) (rw same c.requires.few) c.loop-digit.invariant digit
