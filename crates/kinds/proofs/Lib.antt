@@ -1,4 +1,3 @@
-pub mod Buffers
+pub mod Numbers
 pub mod Spans
-pub mod Steps
 pub mod Tested

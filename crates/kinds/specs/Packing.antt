@@ -1,13 +1,13 @@
 -- What the calls that build a group and take it apart answer and write, whatever they are given. A layout without octets is that of a depth
 -- that the kind does not have.
-use Rattle.std.specs.Prelude.{◌≡◌, ℕ, ◌+◌, ◌^◌, ◌<◌, Bool, true, cond, ◌&&◌, List, [], ◌∷◌, ◌++◌, length, take, drop, ◌==◌, nat_le, nat_lt, slice_index}
+use Rattle.std.specs.Prelude.{◌≡◌, ℕ, ◌+◌, ◌^◌, ◌<◌, Bool, cond, ◌&&◌, List, ◌++◌, length, take, drop, ◌==◌, nat_le, nat_lt, slice_index}
+use Rattle.std.specs.List.{list_all}
 use Rattle.theory.specs.Layouts.{Layout}
 use Rattle.theory.specs.Groups.{value_at, samples_of_octets, octets_of_samples}
 
 -- each number is below the limit
 abbrev pub all_under : ℕ → List ℕ → Bool
-all_under limit [] = true
-all_under limit (x ∷ xs) = nat_lt x limit && all_under limit xs
+all_under limit = list_all (λ x. nat_lt x limit)
 
 -- the kind has the depth, and these octets are as many as a group has
 abbrev pub is_group : Layout → List ℕ → Bool

@@ -4,6 +4,7 @@
 //! Every call is total: what is not of the kind answers 0 or false, and leaves the memory as it was.
 #![tactic(auto)]
 
+mod family;
 mod kind;
 mod packing;
 mod standard;

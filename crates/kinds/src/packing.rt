@@ -1,123 +1,151 @@
 //! The samples of a group in its octets: `depth` bits each, the most significant first, without gaps.
 
-ghost use Rattle.std.specs.Prelude.{◌≡◌, ◌+◌, ◌-◌, ◌*◌, ◌/◌, ◌%◌, ◌^◌, ◌<◌, ◌≤◌, true, length};
+ghost use Rattle.std.specs.Prelude.{◌≡◌, ℕ, ◌+◌, ◌-◌, ◌*◌, ◌/◌, ◌%◌, ◌^◌, ◌<◌, ◌≤◌, true, length, map, ◌==◌, ◌&&◌, IfSome, None};
 ghost use Rattle.std.specs.Int.Digits.{AllBelowBase, number_from_digits};
-ghost use Rattle.theory.specs.Groups.{octets_of_samples, samples_of_octets, value_at};
-ghost use Rattle.kinds.specs.Packing.{ReadsBack, all_under, are_samples, is_group, packed, packed_into, packs, packs_into, unpacked, unpacked_all, unpacks_all};
+ghost use Rattle.theory.specs.Octets.{digit, digits};
+ghost use Rattle.theory.specs.Groups.{octets_of_samples};
+ghost use Rattle.kinds.specs.Packing.{ReadsBack, all_under, packed, packed_into, packs, packs_into, unpacked, unpacked_all, unpacks_all};
 
 use crate::kind::GroupKind;
 
-/// The number that a few octets write.
-fn number_of_octets(octets: &[u8]) -> u32
-    requires { length octets.now ≤ 4 }
-    ensures { result ≡ number_from_digits 256 octets.now }
+/// A digit of the number that a list of them writes, the most significant first.
+trait Digit: Copy {
+    ghost value: { Self → ℕ };
+
+    fn value(self) -> u64
+        ensures { result ≡ value self };
+}
+
+impl Digit for u8 {
+    ghost value = { λ x. x };
+
+    fn value(self) -> u64 {
+        u64::from(self)
+    }
+}
+
+impl Digit for u16 {
+    ghost value = { λ x. x };
+
+    fn value(self) -> u64 {
+        u64::from(self)
+    }
+}
+
+/// The number that a few digits of `width` bits write.
+#[inline]
+fn number<T: Digit>(digits: &[T], width: usize) -> u64
+    requires bits { width ≤ 16 }
+    requires few { width * length digits.now ≤ 64 }
+    requires small { AllBelowBase (2 ^ width) (map T.value digits.now) }
+    ensures { result ≡ number_from_digits (2 ^ width) (map T.value digits.now) }
 {
     let mut n = 0;
-    for octet in octets {
-        n = n << 8 | u32::from(*octet);
+    for digit in digits {
+        n = n << width | digit.value();
     }
     n
 }
 
-/// The number that one or two samples of `depth` bits write.
-fn number_of_samples(samples: &[u16], depth: u8) -> u32
-    requires few { length samples.now ≤ 2 }
-    requires bits { depth ≤ 16 }
-    requires small { AllBelowBase (2 ^ depth) samples.now }
-    ensures { result ≡ number_from_digits (2 ^ depth) samples.now }
+/// Of digits of `width` bits, the `count` bits from bit `start` on. Inlined, so that octets, and samples of a depth that is known, are found
+/// by shifts and not by division.
+#[inline(always)]
+fn bits<T: Digit>(digits: &[T], width: usize, start: usize, count: usize) -> u64
+    requires width { (0 < width) × (width ≤ 16) }
+    requires count { count ≤ 16 }
+    requires few { length digits.now ≤ 48 }
+    requires inside { start + count ≤ length digits.now * width }
+    requires small { AllBelowBase (2 ^ width) (map T.value digits.now) }
+    ensures { result ≡ (number_from_digits (2 ^ width) (map T.value digits.now) / 2 ^ (length digits.now * width - (start + count))) % 2 ^ count }
 {
-    let mut n = 0;
-    for sample in samples {
-        n = n << depth | u32::from(*sample);
-    }
-    n
-}
-
-/// Of a group's octets, the `depth` bits from bit `start` on.
-fn bits_at(group: &[u8], start: usize, depth: u8) -> u16
-    requires bits { depth ≤ 16 }
-    requires few { length group.now ≤ 48 }
-    requires inside { start + depth ≤ length group.now * 8 }
-    ensures { result ≡ (number_from_digits 256 group.now / 2 ^ (length group.now * 8 - (start + depth))) % 2 ^ depth }
-{
-    let end = start + depth as usize;
-    let last = end.div_ceil(8);
-    let window = number_of_octets(&group[start / 8..last]);
-    (window >> (last * 8 - end) & ((1 << depth) - 1)) as u16
-}
-
-/// Of a group's samples, each of `depth` bits, the octet that begins at bit `start`.
-fn octet_at(samples: &[u16], start: usize, depth: u8) -> u8
-    requires bits { (8 ≤ depth) × (depth ≤ 16) }
-    requires few { length samples.now ≤ 24 }
-    requires inside { start + 8 ≤ length samples.now * depth }
-    requires small { AllBelowBase (2 ^ depth) samples.now }
-    ensures { result ≡ (number_from_digits (2 ^ depth) samples.now / 2 ^ (length samples.now * depth - (start + 8))) % 256 }
-{
-    let bits = depth as usize;
-    let end = start + 8;
-    let last = end.div_ceil(bits);
-    let window = number_of_samples(&samples[start / bits..last], depth);
-    (window >> (last * bits - end) & 0xff) as u8
+    let end = start + count;
+    let last = end.div_ceil(width);
+    let window = number(&digits[start / width..last], width);
+    window >> (last * width - end) & ((1 << count) - 1)
 }
 
 /// Whether each sample is below the limit.
 fn all_under(samples: &[u16], limit: u32) -> bool
     ensures { result ≡ all_under limit samples.now }
 {
-    for sample in samples {
-        if u32::from(*sample) >= limit {
-            return false;
+    samples.iter().all(|sample| u32::from(*sample) < limit)
+}
+
+/// How the samples of a group stand in its octets.
+#[derive(Clone, Copy)]
+struct Packing {
+    depth: usize,
+    positions: usize,
+    octets: usize,
+    ghost depth_range: { (8 ≤ depth) × (depth ≤ 16) },
+    ghost few: { positions ≤ 24 },
+    ghost bits: { octets * 8 ≡ positions * depth },
+}
+
+impl Packing {
+    /// None if the kind does not have the depth.
+    fn new<K: GroupKind>(kind: &K, depth: u8) -> Option<Self>
+        ensures none { result ≡ None → ((K.GroupKind.kind kind.now).layout depth).octets ≡ 0 }
+        ensures some { IfSome result (λ p. (0 < p.octets) × (p.depth ≡ depth) × (p.positions ≡ ((K.GroupKind.kind kind.now).layout depth).positions) × (p.octets ≡ ((K.GroupKind.kind kind.now).layout depth).octets)) }
+    {
+        let octets = kind.octets(depth);
+        if octets == 0 {
+            return None;
+        }
+        Some(Packing {
+            depth: usize::from(depth),
+            positions: kind.positions(depth),
+            octets,
+        })
+    }
+
+    /// Whether these samples are as many as a group has, each of `depth` bits.
+    fn takes(self, samples: &[u16]) -> bool
+        ensures { result ≡ (length samples.now == self.positions && all_under (2 ^ self.depth) samples.now) }
+    {
+        samples.len() == self.positions && all_under(samples, 1 << self.depth)
+    }
+
+    /// The sample at position `k` of a group.
+    fn sample(self, group: &[u8], k: usize) -> u16
+        requires whole { length group.now ≡ self.octets }
+        requires inside { k < self.positions }
+        ensures { result ≡ digit self.depth self.positions (number_from_digits 256 group.now) k }
+    {
+        bits(group, 8, k * self.depth, self.depth) as u16
+    }
+
+    /// The octet at `i` of the group of these samples.
+    fn octet(self, samples: &[u16], i: usize) -> u8
+        requires complete { length samples.now ≡ self.positions }
+        requires small { AllBelowBase (2 ^ self.depth) samples.now }
+        requires inside { i < self.octets }
+        ensures { result ≡ digit 8 self.octets (number_from_digits (2 ^ self.depth) samples.now) i }
+    {
+        bits(samples, self.depth, i * 8, 8) as u8
+    }
+
+    /// Reads every sample of a group.
+    fn read(self, group: &[u8], samples: &mut [u16])
+        requires whole { length group.now ≡ self.octets }
+        requires complete { length samples.old ≡ self.positions }
+        ensures { samples.new ≡ digits self.depth self.positions (number_from_digits 256 group.now) }
+    {
+        for (k, sample) in samples.iter_mut().enumerate() {
+            *sample = self.sample(group, k);
         }
     }
-    true
-}
 
-/// Whether these octets are as many as a group has.
-fn is_group<K: GroupKind>(kind: &K, depth: u8, group: &[u8]) -> bool
-    ensures { result ≡ is_group ((K.GroupKind.kind kind.now).layout depth) group.now }
-{
-    !group.is_empty() && group.len() == kind.octets(depth)
-}
-
-/// Whether these samples are as many as a group has, each of `depth` bits.
-fn are_samples<K: GroupKind>(kind: &K, depth: u8, samples: &[u16]) -> bool
-    requires { 0 < ((K.GroupKind.kind kind.now).layout depth).octets }
-    ensures { result ≡ are_samples ((K.GroupKind.kind kind.now).layout depth) depth samples.now }
-{
-    samples.len() == kind.positions(depth) && all_under(samples, 1 << depth)
-}
-
-/// The sample at position `k` of a whole group.
-fn value_at<K: GroupKind>(kind: &K, depth: u8, group: &[u8], k: usize) -> u16
-    requires whole { is_group ((K.GroupKind.kind kind.now).layout depth) group.now ≡ true }
-    requires inside { k < ((K.GroupKind.kind kind.now).layout depth).positions }
-    ensures { result ≡ value_at ((K.GroupKind.kind kind.now).layout depth) depth group.now k }
-{
-    bits_at(group, k * depth as usize, depth)
-}
-
-/// Reads every sample of a whole group.
-fn read_group<K: GroupKind>(kind: &K, depth: u8, group: &[u8], samples: &mut [u16])
-    requires whole { is_group ((K.GroupKind.kind kind.now).layout depth) group.now ≡ true }
-    requires all { length samples.old ≡ ((K.GroupKind.kind kind.now).layout depth).positions }
-    ensures samples { samples.new ≡ samples_of_octets ((K.GroupKind.kind kind.now).layout depth) depth group.now }
-    ensures back { octets_of_samples ((K.GroupKind.kind kind.now).layout depth) depth samples.new ≡ group.now }
-{
-    for (k, sample) in samples.iter_mut().enumerate() {
-        *sample = value_at(kind, depth, group, k);
-    }
-}
-
-/// Writes a whole group from its samples.
-fn write_group<K: GroupKind>(kind: &K, depth: u8, samples: &[u16], group: &mut [u8])
-    requires whole { is_group ((K.GroupKind.kind kind.now).layout depth) group.old ≡ true }
-    requires complete { are_samples ((K.GroupKind.kind kind.now).layout depth) depth samples.now ≡ true }
-    ensures octets { group.new ≡ octets_of_samples ((K.GroupKind.kind kind.now).layout depth) depth samples.now }
-    ensures back { ReadsBack ((K.GroupKind.kind kind.now).layout depth) depth samples.now group.new }
-{
-    for (i, octet) in group.iter_mut().enumerate() {
-        *octet = octet_at(samples, 8 * i, depth);
+    /// Writes a group from its samples.
+    fn write(self, samples: &[u16], group: &mut [u8])
+        requires whole { length group.old ≡ self.octets }
+        requires complete { length samples.now ≡ self.positions }
+        requires small { AllBelowBase (2 ^ self.depth) samples.now }
+        ensures { group.new ≡ digits 8 self.octets (number_from_digits (2 ^ self.depth) samples.now) }
+    {
+        for (i, octet) in group.iter_mut().enumerate() {
+            *octet = self.octet(samples, i);
+        }
     }
 }
 
@@ -125,10 +153,11 @@ fn write_group<K: GroupKind>(kind: &K, depth: u8, samples: &[u16], group: &mut [
 pub fn unpack<K: GroupKind>(kind: &K, depth: u8, group: &[u8], k: usize) -> u16
     ensures { result ≡ unpacked ((K.GroupKind.kind kind.now).layout depth) depth group.now k }
 {
-    if is_group(kind, depth, group) && k < kind.positions(depth) {
-        value_at(kind, depth, group, k)
-    } else {
-        0
+    match Packing::new(kind, depth) {
+        Some(packing) if group.len() == packing.octets && k < packing.positions => packing.sample(
+            group, k,
+        ),
+        _ => 0,
     }
 }
 
@@ -138,11 +167,12 @@ pub fn unpack_all<K: GroupKind>(kind: &K, depth: u8, group: &[u8], samples: &mut
     ensures memory { samples.new ≡ unpacked_all ((K.GroupKind.kind kind.now).layout depth) depth group.now samples.old }
     ensures back { result ≡ true → octets_of_samples ((K.GroupKind.kind kind.now).layout depth) depth samples.new ≡ group.now }
 {
-    if is_group(kind, depth, group) && samples.len() == kind.positions(depth) {
-        read_group(kind, depth, group, samples);
-        true
-    } else {
-        false
+    match Packing::new(kind, depth) {
+        Some(packing) if group.len() == packing.octets && samples.len() == packing.positions => {
+            packing.read(group, samples);
+            true
+        }
+        _ => false,
     }
 }
 
@@ -152,11 +182,12 @@ pub fn pack<K: GroupKind>(kind: &K, depth: u8, samples: &[u16], group: &mut [u8]
     ensures memory { group.new ≡ packed ((K.GroupKind.kind kind.now).layout depth) depth samples.now group.old }
     ensures back { result ≡ true → ReadsBack ((K.GroupKind.kind kind.now).layout depth) depth samples.now group.new }
 {
-    if is_group(kind, depth, group) && are_samples(kind, depth, samples) {
-        write_group(kind, depth, samples, group);
-        true
-    } else {
-        false
+    match Packing::new(kind, depth) {
+        Some(packing) if group.len() == packing.octets && packing.takes(samples) => {
+            packing.write(samples, group);
+            true
+        }
+        _ => false,
     }
 }
 
@@ -171,10 +202,8 @@ pub fn pack_into<K: GroupKind>(
     ensures answer { result ≡ packs_into ((K.GroupKind.kind kind.now).layout depth) depth samples.now buffer.old start }
     ensures memory { buffer.new ≡ packed_into ((K.GroupKind.kind kind.now).layout depth) depth samples.now buffer.old start }
 {
-    let octets = kind.octets(depth);
-    if start <= buffer.len() && octets <= buffer.len() - start {
-        pack(kind, depth, samples, &mut buffer[start..start + octets])
-    } else {
-        false
+    match start.checked_add(kind.octets(depth)) {
+        Some(end) if end <= buffer.len() => pack(kind, depth, samples, &mut buffer[start..end]),
+        _ => false,
     }
 }

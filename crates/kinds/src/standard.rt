@@ -1,11 +1,11 @@
 //! The kinds of the standard, one for each sampling family.
 
-ghost use Rattle.std.specs.Prelude.{◌≡◌, [], if◌then◌else◌, nat_lt, refl};
-ghost use Rattle.theory.specs.Kinds.{full, key, rgb, xyz, ycc420, ycc422, ycc444};
-ghost use Rattle.kinds.specs.Laws.{lawful_full, lawful_deep};
+ghost use Rattle.std.specs.Prelude.{◌≡◌, true, false, [], ◌∷◌, refl};
+ghost use Rattle.theory.specs.Kinds.{full_layout, half_layout, key, key_layout, quarter_layout, rgb, xyz, ycc420, ycc422, ycc444};
 ghost use Rattle.theory.proofs.Lawfulness.{standard_kinds};
+ghost use Rattle.kinds.specs.Laws.{lawful_full, follows_deep, follows_full, follows_half, follows_key, follows_quarter};
 
-use crate::kind::GroupKind;
+use crate::family::{Family, Place};
 
 /// YCbCr, CLYCbCr and ICtCp at 4:4:4: planes 1, 0 and 2 of each column.
 #[derive(Clone, Copy)]
@@ -31,22 +31,9 @@ pub struct Xyz;
 #[derive(Clone, Copy)]
 pub struct Key;
 
-/// Octets of a group of three planes that have every column each: 4:4:4, RGB and XYZ.
-fn full_octets(depth: u8) -> usize
-    ensures { result ≡ (full [] depth).octets }
-{
-    match depth {
-        8 => 3,
-        10 => 15,
-        12 => 9,
-        16 => 6,
-        _ => 0,
-    }
-}
-
-/// Columns of such a group, and of a key's.
+/// The columns of a group whose planes have every column.
 fn full_columns(depth: u8) -> usize
-    ensures { result ≡ (full [] depth).columns }
+    ensures { result ≡ (key.layout depth).columns }
 {
     match depth {
         8 | 16 => 1,
@@ -56,301 +43,224 @@ fn full_columns(depth: u8) -> usize
     }
 }
 
-/// Samples of such a group.
-fn full_positions(depth: u8) -> usize
-    ensures { result ≡ (full [] depth).positions }
-{
-    3 * full_columns(depth)
-}
-
-/// Columns, and rows, of the part to one of a plane.
-fn full_step(depth: u8, plane: usize) -> usize
-    ensures columns { result ≡ (full [] depth).column_step plane }
-    ensures rows { result ≡ (full [] depth).row_step plane }
-{
-    if plane < 3 && full_octets(depth) > 0 {
-        1
-    } else {
-        0
-    }
-}
-
-/// The column of position `k` of such a group.
-fn full_column(depth: u8, k: usize) -> usize
-    ensures { result ≡ (full [] depth).column k }
-{
-    if k < full_positions(depth) { k / 3 } else { 0 }
-}
-
-/// The depth, or 0 below the depths of XYZ.
-fn deep(depth: u8) -> u8
-    ensures { result ≡ (if nat_lt depth 12 then 0 else depth) }
-{
-    if depth < 12 { 0 } else { depth }
-}
-
-impl GroupKind for Ycc444 {
+impl Family for Ycc444 {
     const PLANES: usize = 3;
 
     const ROWS: usize = 1;
 
-    ghost kind = { λ _. ycc444 };
+    const SAMPLES: usize = 3;
 
-    ghost lawful = { λ _. lawful_full _ refl refl };
+    const COLUMN_STEP: usize = 1;
 
-    fn plane_count(&self) -> usize {
-        Self::PLANES
-    }
+    const ROW_STEP: usize = 1;
 
-    fn group_rows(&self) -> usize {
-        Self::ROWS
-    }
+    ghost PLANES = { ycc444.planes };
 
-    fn octets(&self, depth: u8) -> usize {
-        full_octets(depth)
-    }
+    ghost ROWS = { ycc444.rows };
 
-    fn columns(&self, depth: u8) -> usize {
+    ghost SAMPLES = { 3 };
+
+    ghost COLUMN_STEP = { 1 };
+
+    ghost ROW_STEP = { 1 };
+
+    ghost kind = { ycc444 };
+
+    ghost widest = { full_layout (1 ∷ 0 ∷ 2 ∷ []) 15 4 };
+
+    ghost lawful = { lawful_full _ true refl refl };
+
+    ghost counts = { (refl, refl) };
+
+    ghost follows = { follows_full (1 ∷ 0 ∷ 2 ∷ []) };
+
+    fn columns(depth: u8) -> usize {
         full_columns(depth)
     }
 
-    fn positions(&self, depth: u8) -> usize {
-        full_positions(depth)
-    }
-
-    fn column_step(&self, depth: u8, plane: usize) -> usize {
-        full_step(depth, plane)
-    }
-
-    fn row_step(&self, depth: u8, plane: usize) -> usize {
-        full_step(depth, plane)
-    }
-
-    fn position_plane(&self, depth: u8, k: usize) -> usize {
-        if k < full_positions(depth) {
-            match k % 3 {
-                0 => 1,
-                1 => 0,
-                _ => 2,
-            }
-        } else {
-            0
+    fn place(k: usize) -> Place {
+        let plane = match k % 3 {
+            0 => 1,
+            1 => 0,
+            _ => 2,
+        };
+        Place {
+            plane,
+            row: 0,
+            column: k / 3,
         }
     }
-
-    fn position_row(&self, _depth: u8, _k: usize) -> usize {
-        0
-    }
-
-    fn position_column(&self, depth: u8, k: usize) -> usize {
-        full_column(depth, k)
-    }
 }
 
-impl GroupKind for Rgb {
+impl Family for Rgb {
     const PLANES: usize = 3;
 
     const ROWS: usize = 1;
 
-    ghost kind = { λ _. rgb };
+    const SAMPLES: usize = 3;
 
-    ghost lawful = { λ _. lawful_full _ refl refl };
+    const COLUMN_STEP: usize = 1;
 
-    fn plane_count(&self) -> usize {
-        Self::PLANES
-    }
+    const ROW_STEP: usize = 1;
 
-    fn group_rows(&self) -> usize {
-        Self::ROWS
-    }
+    ghost PLANES = { rgb.planes };
 
-    fn octets(&self, depth: u8) -> usize {
-        full_octets(depth)
-    }
+    ghost ROWS = { rgb.rows };
 
-    fn columns(&self, depth: u8) -> usize {
+    ghost SAMPLES = { 3 };
+
+    ghost COLUMN_STEP = { 1 };
+
+    ghost ROW_STEP = { 1 };
+
+    ghost kind = { rgb };
+
+    ghost widest = { full_layout (0 ∷ 1 ∷ 2 ∷ []) 15 4 };
+
+    ghost lawful = { lawful_full _ true refl refl };
+
+    ghost counts = { (refl, refl) };
+
+    ghost follows = { follows_full (0 ∷ 1 ∷ 2 ∷ []) };
+
+    fn columns(depth: u8) -> usize {
         full_columns(depth)
     }
 
-    fn positions(&self, depth: u8) -> usize {
-        full_positions(depth)
-    }
-
-    fn column_step(&self, depth: u8, plane: usize) -> usize {
-        full_step(depth, plane)
-    }
-
-    fn row_step(&self, depth: u8, plane: usize) -> usize {
-        full_step(depth, plane)
-    }
-
-    fn position_plane(&self, depth: u8, k: usize) -> usize {
-        if k < full_positions(depth) { k % 3 } else { 0 }
-    }
-
-    fn position_row(&self, _depth: u8, _k: usize) -> usize {
-        0
-    }
-
-    fn position_column(&self, depth: u8, k: usize) -> usize {
-        full_column(depth, k)
+    fn place(k: usize) -> Place {
+        Place {
+            plane: k % 3,
+            row: 0,
+            column: k / 3,
+        }
     }
 }
 
-impl GroupKind for Xyz {
+impl Family for Xyz {
     const PLANES: usize = Rgb::PLANES;
 
     const ROWS: usize = Rgb::ROWS;
 
-    ghost kind = { λ _. xyz };
+    const SAMPLES: usize = Rgb::SAMPLES;
 
-    ghost lawful = { λ _. lawful_deep _ refl refl };
+    const COLUMN_STEP: usize = Rgb::COLUMN_STEP;
 
-    fn plane_count(&self) -> usize {
-        Self::PLANES
+    const ROW_STEP: usize = Rgb::ROW_STEP;
+
+    ghost PLANES = { xyz.planes };
+
+    ghost ROWS = { xyz.rows };
+
+    ghost SAMPLES = { 3 };
+
+    ghost COLUMN_STEP = { 1 };
+
+    ghost ROW_STEP = { 1 };
+
+    ghost kind = { xyz };
+
+    ghost widest = { full_layout (0 ∷ 1 ∷ 2 ∷ []) 9 2 };
+
+    ghost lawful = { lawful_full _ false refl refl };
+
+    ghost counts = { (refl, refl) };
+
+    ghost follows = { follows_deep };
+
+    fn columns(depth: u8) -> usize {
+        if depth < 12 { 0 } else { Rgb::columns(depth) }
     }
 
-    fn group_rows(&self) -> usize {
-        Self::ROWS
-    }
-
-    fn octets(&self, depth: u8) -> usize {
-        full_octets(deep(depth))
-    }
-
-    fn columns(&self, depth: u8) -> usize {
-        full_columns(deep(depth))
-    }
-
-    fn positions(&self, depth: u8) -> usize {
-        full_positions(deep(depth))
-    }
-
-    fn column_step(&self, depth: u8, plane: usize) -> usize {
-        full_step(deep(depth), plane)
-    }
-
-    fn row_step(&self, depth: u8, plane: usize) -> usize {
-        full_step(deep(depth), plane)
-    }
-
-    fn position_plane(&self, depth: u8, k: usize) -> usize {
-        Rgb.position_plane(deep(depth), k)
-    }
-
-    fn position_row(&self, _depth: u8, _k: usize) -> usize {
-        0
-    }
-
-    fn position_column(&self, depth: u8, k: usize) -> usize {
-        full_column(deep(depth), k)
+    fn place(k: usize) -> Place {
+        Rgb::place(k)
     }
 }
 
-impl GroupKind for Ycc422 {
+impl Family for Ycc422 {
     const PLANES: usize = 3;
 
     const ROWS: usize = 1;
 
-    ghost kind = { λ _. ycc422 };
+    const SAMPLES: usize = 2;
 
-    ghost lawful = { λ _. standard_kinds.ycc422_lawful };
+    const COLUMN_STEP: usize = 2;
 
-    fn plane_count(&self) -> usize {
-        Self::PLANES
-    }
+    const ROW_STEP: usize = 1;
 
-    fn group_rows(&self) -> usize {
-        Self::ROWS
-    }
+    ghost PLANES = { ycc422.planes };
 
-    fn octets(&self, depth: u8) -> usize {
-        match depth {
-            8 => 4,
-            10 => 5,
-            12 => 6,
-            16 => 8,
-            _ => 0,
-        }
-    }
+    ghost ROWS = { ycc422.rows };
 
-    fn columns(&self, depth: u8) -> usize {
+    ghost SAMPLES = { 2 };
+
+    ghost COLUMN_STEP = { 2 };
+
+    ghost ROW_STEP = { 1 };
+
+    ghost kind = { ycc422 };
+
+    ghost widest = { half_layout 4 };
+
+    ghost lawful = { standard_kinds.ycc422_lawful };
+
+    ghost counts = { (refl, refl) };
+
+    ghost follows = { follows_half };
+
+    fn columns(depth: u8) -> usize {
         match depth {
             8 | 10 | 12 | 16 => 2,
             _ => 0,
         }
     }
 
-    fn positions(&self, depth: u8) -> usize {
-        2 * self.columns(depth)
-    }
-
-    fn column_step(&self, depth: u8, plane: usize) -> usize {
-        if self.octets(depth) == 0 {
-            return 0;
-        }
-        match plane {
-            0 => 1,
-            1 | 2 => 2,
-            _ => 0,
-        }
-    }
-
-    fn row_step(&self, depth: u8, plane: usize) -> usize {
-        full_step(depth, plane)
-    }
-
-    fn position_plane(&self, depth: u8, k: usize) -> usize {
-        if self.octets(depth) == 0 {
-            return 0;
-        }
-        match k {
-            0 => 1,
-            2 => 2,
-            _ => 0,
-        }
-    }
-
-    fn position_row(&self, _depth: u8, _k: usize) -> usize {
-        0
-    }
-
-    fn position_column(&self, depth: u8, k: usize) -> usize {
-        if self.octets(depth) > 0 && k == 3 {
-            1
-        } else {
-            0
+    fn place(k: usize) -> Place {
+        let (plane, column) = match k {
+            0 => (1, 0),
+            1 => (0, 0),
+            2 => (2, 0),
+            _ => (0, 1),
+        };
+        Place {
+            plane,
+            row: 0,
+            column,
         }
     }
 }
 
-impl GroupKind for Ycc420 {
+impl Family for Ycc420 {
     const PLANES: usize = 3;
 
     const ROWS: usize = 2;
 
-    ghost kind = { λ _. ycc420 };
+    const SAMPLES: usize = 3;
 
-    ghost lawful = { λ _. standard_kinds.ycc420_lawful };
+    const COLUMN_STEP: usize = 2;
 
-    fn plane_count(&self) -> usize {
-        Self::PLANES
-    }
+    const ROW_STEP: usize = 2;
 
-    fn group_rows(&self) -> usize {
-        Self::ROWS
-    }
+    ghost PLANES = { ycc420.planes };
 
-    fn octets(&self, depth: u8) -> usize {
-        match depth {
-            8 => 6,
-            10 => 15,
-            12 => 9,
-            _ => 0,
-        }
-    }
+    ghost ROWS = { ycc420.rows };
 
-    fn columns(&self, depth: u8) -> usize {
+    ghost SAMPLES = { 3 };
+
+    ghost COLUMN_STEP = { 2 };
+
+    ghost ROW_STEP = { 2 };
+
+    ghost kind = { ycc420 };
+
+    ghost widest = { quarter_layout 15 4 };
+
+    ghost lawful = { standard_kinds.ycc420_lawful };
+
+    ghost counts = { (refl, refl) };
+
+    ghost follows = { follows_quarter };
+
+    fn columns(depth: u8) -> usize {
         match depth {
             8 | 12 => 2,
             10 => 4,
@@ -358,117 +268,61 @@ impl GroupKind for Ycc420 {
         }
     }
 
-    fn positions(&self, depth: u8) -> usize {
-        3 * self.columns(depth)
-    }
-
-    fn column_step(&self, depth: u8, plane: usize) -> usize {
-        if self.octets(depth) == 0 {
-            return 0;
-        }
-        match plane {
-            0 => 1,
-            1 | 2 => 2,
-            _ => 0,
-        }
-    }
-
-    fn row_step(&self, depth: u8, plane: usize) -> usize {
-        self.column_step(depth, plane)
-    }
-
-    fn position_plane(&self, depth: u8, k: usize) -> usize {
-        if k < self.positions(depth) {
-            match k % 6 {
-                4 => 1,
-                5 => 2,
-                _ => 0,
-            }
-        } else {
-            0
-        }
-    }
-
-    fn position_row(&self, depth: u8, k: usize) -> usize {
-        if k < self.positions(depth) {
-            match k % 6 {
-                2 | 3 => 1,
-                _ => 0,
-            }
-        } else {
-            0
-        }
-    }
-
-    fn position_column(&self, depth: u8, k: usize) -> usize {
-        if k < self.positions(depth) {
-            match k % 6 {
-                0 | 2 => 2 * (k / 6),
-                1 | 3 => 2 * (k / 6) + 1,
-                _ => k / 6,
-            }
-        } else {
-            0
-        }
+    fn place(k: usize) -> Place {
+        let pair = k / 6;
+        let left = 2 * pair;
+        let (plane, row, column) = match k % 6 {
+            0 => (0, 0, left),
+            1 => (0, 0, left + 1),
+            2 => (0, 1, left),
+            3 => (0, 1, left + 1),
+            4 => (1, 0, pair),
+            _ => (2, 0, pair),
+        };
+        Place { plane, row, column }
     }
 }
 
-impl GroupKind for Key {
+impl Family for Key {
     const PLANES: usize = 1;
 
     const ROWS: usize = 1;
 
-    ghost kind = { λ _. key };
+    const SAMPLES: usize = 1;
 
-    ghost lawful = { λ _. standard_kinds.key_lawful };
+    const COLUMN_STEP: usize = 1;
 
-    fn plane_count(&self) -> usize {
-        Self::PLANES
-    }
+    const ROW_STEP: usize = 1;
 
-    fn group_rows(&self) -> usize {
-        Self::ROWS
-    }
+    ghost PLANES = { key.planes };
 
-    fn octets(&self, depth: u8) -> usize {
-        match depth {
-            8 => 1,
-            10 => 5,
-            12 => 3,
-            16 => 2,
-            _ => 0,
-        }
-    }
+    ghost ROWS = { key.rows };
 
-    fn columns(&self, depth: u8) -> usize {
+    ghost SAMPLES = { 1 };
+
+    ghost COLUMN_STEP = { 1 };
+
+    ghost ROW_STEP = { 1 };
+
+    ghost kind = { key };
+
+    ghost widest = { key_layout 5 4 };
+
+    ghost lawful = { standard_kinds.key_lawful };
+
+    ghost counts = { (refl, refl) };
+
+    ghost follows = { follows_key };
+
+    fn columns(depth: u8) -> usize {
         full_columns(depth)
     }
 
-    fn positions(&self, depth: u8) -> usize {
-        self.columns(depth)
-    }
-
-    fn column_step(&self, depth: u8, plane: usize) -> usize {
-        if plane < Self::PLANES && self.octets(depth) > 0 {
-            1
-        } else {
-            0
+    fn place(k: usize) -> Place {
+        Place {
+            plane: 0,
+            row: 0,
+            column: k,
         }
-    }
-
-    fn row_step(&self, depth: u8, plane: usize) -> usize {
-        self.column_step(depth, plane)
-    }
-
-    fn position_plane(&self, _depth: u8, _k: usize) -> usize {
-        0
-    }
-
-    fn position_row(&self, _depth: u8, _k: usize) -> usize {
-        0
-    }
-
-    fn position_column(&self, depth: u8, k: usize) -> usize {
-        if k < self.columns(depth) { k } else { 0 }
     }
 }
