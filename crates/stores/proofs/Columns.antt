@@ -3,10 +3,12 @@ use Rattle.std.proofs.Common.{◌≡◌, ℕ, zero, suc, ◌+◌, ◌-◌, ◌%�
 use mathlib.Core.Path.{fun_ext}
 use lib.Bits.{bit_and}
 use lib.Seq.{paste}
-use Rattle.std.specs.List.{range_with_len, between}
+use Rattle.std.specs.List.{fold, list_all, range_with_len, between}
 use Rattle.std.proofs.lemmas.Nat.{and_mask}
+use Rattle.std.proofs.Math.Bool.{and_comm}
 use Rattle.std.proofs.lemmas.List.FromFn.{fill_by_all}
-use Rattle.std.proofs.lemmas.List.{length-take-le, get_or-take, take_all, drop-drop}
+use Rattle.std.proofs.lemmas.List.Folds.{list_all_more}
+use Rattle.std.proofs.lemmas.List.{length-take-le, get_or-take, take_all}
 use Rattle.std.proofs.lemmas.List.Edits.{paste_none, paste_more, length-paste, drop-paste, get_or-between}
 use Rattle.std.proofs.lemmas.Bool.{cases_lt, cases_order, ltb-true, leb-true, lt-ltb, le-ltb, le-leb, lt-leb, eq-eqb, ne_eqb, and_parts, and_from, and_left, and_right, both_ways, cond-true, cond-false}
 use Rattle.theory.specs.Octets.{all_below}
@@ -17,19 +19,31 @@ use Rattle.stores.specs.Words.{word_at, in_words, row_words_after}
 use Rattle.stores.proofs.Places.{put_word}
 use Rattle.stores.proofs.Puts.{put_taken}
 
--- whether one value more is below the limit
-module _ (xs : List ℕ) (limit i : ℕ) (positive : 0 < limit) where
-  abbrev small : ℕ → Bool
-  small k = ltb (get_or xs k 0) limit
+-- to fold a test over values is to ask whether all pass it, and so is to ask it of each index
+module _ (p : ℕ → Bool) where
+  folded : (b : Bool) (xs : List ℕ) → fold (λ fit x. fit && p x) b xs ≡ (b && list_all p xs)
+  folded true [] = refl
+  folded false [] = refl
+  folded true (x ∷ xs) = folded (p x) xs
+  folded false (x ∷ xs) = folded false xs
 
-  one_more : all_below (i + 1) small ≡ (small i && all_below i small)
-  one_more = ap (λ n. all_below n small) (add-one i)
+  listed : (xs : List ℕ) (i : ℕ) → i ≤ length xs → list_all p (take i xs) ≡ all_below i (λ k. p (get_or xs k 0))
+  listed xs zero h = refl
+  listed xs (suc i) h =
+      ap (λ n. list_all p (take n xs)) (sym (add-one i))
+      ∙ list_all_more p xs i 0 (omega arith)
+      ∙ ap (λ b. b && p (get_or xs i 0)) (listed xs i (omega arith))
+      ∙ and_comm (all_below i (λ k. p (get_or xs k 0))) (p (get_or xs i 0))
 
-  pub more_fit : get_or xs i 0 ≤ limit - 1 → all_below (i + 1) small ≡ all_below i small
-  more_fit h = one_more ∙ ap (λ b. b && all_below i small) (lt-ltb (get_or xs i 0) limit (omega arith))
+  pub all_folded : (xs : List ℕ) → fold (λ fit x. fit && p x) true xs ≡ all_below (length xs) (λ k. p (get_or xs k 0))
+  all_folded xs = folded true xs ∙ ap (list_all p) (sym (take_all (length xs) xs (omega arith))) ∙ listed xs (length xs) (omega arith)
 
-  pub more_large : limit - 1 < get_or xs i 0 → all_below (i + 1) small ≡ false
-  more_large h = one_more ∙ ap (λ b. b && all_below i small) (le-ltb (get_or xs i 0) limit (omega arith))
+-- at most the largest value is below the limit
+pub largest_below : (limit : ℕ) → 0 < limit → ◌≡◌ {A = ℕ → Bool} (λ x. leb x (limit - 1)) (λ x. ltb x limit)
+largest_below limit positive = fun_ext (λ x. elim (cases_lt x limit) [
+  | inl h ↦ le-leb x (limit - 1) (omega arith) ∙ sym (lt-ltb x limit h)
+  | inr h ↦ lt-leb x (limit - 1) (omega arith) ∙ sym (le-ltb x limit h)
+])
 
 -- what a row holds at column d, once values stand there from column c on
 module _ (old c d : ℕ) where
@@ -158,27 +172,11 @@ module _ (v : Picture) (ws : List ℕ) (p r c : ℕ) (xs : List ℕ)
       ∙ written_more i h (put_words i (omega arith))
       ∙ ap (λ n. put_row (in_words v ws) p r c (take n xs)) (add-one i)
 
-  -- the words once all values are written, and their picture
-  pub all_written : (at n : ℕ) → at ≡ word_at v p r c → n ≡ length xs → paste ws at xs n ≡ row_words_after v ws p r c xs
-  all_written at n here all =
-      let kept : List ℕ → List ℕ = λ l. take (word_at v p r c) ws ++ l ++ drop (word_at v p r c + length xs) ws in
-      ap (λ m. paste ws m xs n) here
-      ∙ ap written all
-      ∙ ap kept (take_all (length xs) xs (omega arith))
-      ∙ sym (ap (λ o. cond (is_none o) (kept xs) ws) (row_taken v p r c xs fits below))
-
-  pub picture_written : (at n : ℕ) → at ≡ word_at v p r c → n ≡ length xs → in_words v (paste ws at xs n) ≡ put_row_after (in_words v ws) p r c xs
-  picture_written at n here all =
-      ap (λ m. in_words v (paste ws m xs n)) here
-      ∙ put_words n (omega arith)
-      ∙ row_after (in_words v ws) p r c xs fits below n (omega arith)
-
--- what stands behind all that is written stays
-pub behind_written : (ws : List ℕ) (at : ℕ) (xs : List ℕ) (n m : ℕ) → at + n ≤ length ws → n ≤ length xs → at + n ≤ m → drop m (paste ws at xs n) ≡ drop m ws
-behind_written ws at xs n m a b h =
-    let rest : at + n + (m - (at + n)) ≡ m = omega arith in
-    let part : (l : List ℕ) → drop m l ≡ drop (m - (at + n)) (drop (at + n) l) = λ l. sym (drop-drop (m - (at + n)) (at + n) l ∙ ap (λ k. drop k l) rest) in
-    part (paste ws at xs n) ∙ ap (drop (m - (at + n))) (drop-paste ws at xs n (omega arith) b) ∙ sym (part ws)
+  pub row_written : (at : ℕ) → at ≡ word_at v p r c → in_words v (paste ws at xs (length xs)) ≡ put_row_after (in_words v ws) p r c xs
+  row_written at here =
+      ap (λ m. in_words v (paste ws m xs (length xs))) here
+      ∙ put_words (length xs) (omega arith)
+      ∙ row_after (in_words v ws) p r c xs fits below (length xs) (omega arith)
 
 -- words under the mask of the depth are the samples of the row
 pub words_shown : (v : Picture) (ws : List ℕ) (p r c n at mask : ℕ) (ys : List ℕ) → columns_inside v p r c n ≡ true → at ≡ word_at v p r c → mask ≡ 2 ^ v.depth - 1

@@ -2,6 +2,8 @@
 use Rattle.std.proofs.Common.{◌≡◌, ℕ, ◌+◌, ◌-◌, ◌*◌, ◌^◌, ◌≤◌, Bool, true, false, cond, not, ◌&&◌, eqb, ltb, leb, List, [], ◌∷◌, length, get_or, Some, None, Ok, Err, Option, Result, sym, refl, ap, ◌∙◌, inl, inr, arith}
 use mathlib.Core.Path.{fun_ext}
 use Rattle.std.proofs.lemmas.Bool.{leb-true, le-ltb, eq-eqb, ne_eqb, cases_eq, and_right, cond-true, cond-false}
+use Rattle.std.specs.Option.{ok_or}
+use Rattle.refusals.specs.declared.Refusal.TheVariants.{NoSuchPlace}
 use Rattle.theory.specs.Octets.{all_below}
 use Rattle.theory.specs.Answers.{first_row, is_none}
 use Rattle.theory.specs.Pictures.{Picture, put_refusal, put_after, put_row_refusal, put_row_after, with_samples, field_of, no_picture}
@@ -9,14 +11,14 @@ use Rattle.stores.specs.Keeping.{IfRefused}
 use Rattle.stores.specs.Fields.{field_picture, frame_row, other_field, row_inside}
 
 -- a row that is found is the frame's, and the field is one
-pub found : (v : Picture) (f p r row : ℕ) → Some row ≡ frame_row v f p r → (row ≡ 2 * r + f) × (leb f 1 ≡ true)
+pub found : (v : Picture) (f p r row : ℕ) → Ok row ≡ ok_or (frame_row v f p r) NoSuchPlace → (row ≡ 2 * r + f) × (leb f 1 ≡ true)
 found v f p r row = go (leb f 1)
   where
-    some : (b : Bool) (n : ℕ) → Some row ≡ cond b (Some n) None → row ≡ n
+    some : (b : Bool) (n : ℕ) → Ok row ≡ ok_or (cond b (Some n) None) NoSuchPlace → row ≡ n
     some true n e = cc
     some false n e = cc
 
-    go : (b : Bool) → Some row ≡ cond (ltb r ((cond b (field_of v f) no_picture).height p)) (Some (2 * r + f)) None → (row ≡ 2 * r + f) × (b ≡ true)
+    go : (b : Bool) → Ok row ≡ ok_or (cond (ltb r ((cond b (field_of v f) no_picture).height p)) (Some (2 * r + f)) None) NoSuchPlace → (row ≡ 2 * r + f) × (b ≡ true)
     go true e = (some (ltb r ((field_of v f).height p)) (2 * r + f) e, refl)
     go false e = absurd (let z : ◌≡◌ {A = ℕ} 0 1 = cc (cond-false (ltb r 0) (Some (2 * r + f)) None (le-ltb r 0 (omega arith))) in omega arith)
 
@@ -95,8 +97,3 @@ row_through v f p r c xs =
     (λ width depth row. first_row ((not (row && leb (c + length xs) width), 1) ∷ (not (all_below (length xs) (λ i. ltb (get_or xs i 0) (2 ^ depth))), 2) ∷ []))
     (λ here d old. cond (here && leb c d && ltb d (c + length xs)) (get_or xs (d - c) 0) old)
     (λ _ _. refl) v f r
-
--- what a refusal keeps below, it keeps above
-pub kept_by : {A E : Type 0} (a : Result A E) (P Q : Type 0) → (P → Q) → IfRefused a P → IfRefused a Q
-kept_by (Ok _) P Q g k = tt
-kept_by (Err _) P Q g k = g k
