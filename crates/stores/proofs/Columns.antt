@@ -1,5 +1,5 @@
 -- Samples of one row, from a column on: values that fit, samples put one after another, and the words that they are put in.
-use Rattle.std.proofs.Common.{◌≡◌, ℕ, zero, suc, ◌+◌, ◌-◌, ◌%◌, ◌^◌, ◌<◌, ◌≤◌, Bool, true, false, cond, not, ◌&&◌, eqb, ltb, leb, List, [], ◌∷◌, ◌++◌, map, length, get_or, take, drop, set, None, Ok, Err, sym, refl, ap, ◌∙◌, inl, inr, add-one, arith}
+use Rattle.std.proofs.Common.{◌≡◌, ℕ, zero, suc, ◌+◌, ◌-◌, ◌%◌, ◌^◌, ◌<◌, ◌≤◌, Bool, true, false, cond, not, ◌&&◌, eqb, ltb, leb, List, [], ◌∷◌, map, length, get_or, take, set, None, Err, sym, refl, ap, ◌∙◌, inl, inr, add-one, arith}
 use mathlib.Core.Path.{fun_ext}
 use lib.Bits.{bit_and}
 use lib.Seq.{paste}
@@ -9,13 +9,13 @@ use Rattle.std.proofs.Math.Bool.{and_comm}
 use Rattle.std.proofs.lemmas.List.FromFn.{fill_by_all}
 use Rattle.std.proofs.lemmas.List.Folds.{list_all_more}
 use Rattle.std.proofs.lemmas.List.{length-take-le, get_or-take, take_all}
-use Rattle.std.proofs.lemmas.List.Edits.{paste_none, paste_more, length-paste, drop-paste, get_or-between}
-use Rattle.std.proofs.lemmas.Bool.{cases_lt, cases_order, ltb-true, leb-true, lt-ltb, le-ltb, le-leb, lt-leb, eq-eqb, ne_eqb, and_parts, and_from, and_left, and_right, both_ways, cond-true, cond-false}
+use Rattle.std.proofs.lemmas.List.Edits.{paste_none, paste_more, length-paste, get_or-between}
+use Rattle.std.proofs.lemmas.Bool.{cases_lt, cases_order, ltb-true, leb-true, lt-ltb, le-ltb, le-leb, lt-leb, eq-eqb, ne_eqb, and_parts, and_from, and_left, and_right, cond-true, cond-false}
 use Rattle.theory.specs.Octets.{all_below}
-use Rattle.theory.specs.Answers.{first_row, is_none, answer, verdict}
-use Rattle.theory.specs.Pictures.{Picture, inside, with_samples, put, show_answer, put_refusal, put_answer, put_after, columns_inside, put_row, put_row_refusal, put_row_after}
+use Rattle.theory.specs.Answers.{first_row, is_none, verdict}
+use Rattle.theory.specs.Pictures.{Picture, inside, with_samples, put, put_refusal, put_answer, put_after, columns_inside, put_row, put_row_refusal, put_row_after}
 use Rattle.theory.proofs.Searches.{all_below_at}
-use Rattle.stores.specs.Words.{word_at, in_words, row_words_after}
+use Rattle.stores.specs.Words.{word_at, in_words}
 use Rattle.stores.proofs.Places.{put_word}
 use Rattle.stores.proofs.Puts.{put_taken}
 
@@ -103,18 +103,11 @@ module _ (v : Picture) (p r c : ℕ) where
       → columns_inside v p r c n ≡ true
   columns_told n height width x y e = cc
 
-  -- a column among those inside is inside, so it is shown
+  -- a column among those inside is inside
   pub column_inside : (n i : ℕ) → columns_inside v p r c n ≡ true → i < n → inside v p r (c + i) ≡ true
   column_inside n i fits h =
       let both = and_parts (ltb r (v.height p)) (leb (c + n) (v.width p)) fits in
       and_from (ltb r (v.height p)) (ltb (c + i) (v.width p)) both.0 (lt-ltb (c + i) (v.width p) (omega (arith, leb-true (c + n) (v.width p) both.1)))
-
-  pub shown : (n i x : ℕ) → columns_inside v p r c n ≡ true → i < n → Ok x ≡ show_answer v p r (c + i) → x ≡ v.sample p r (c + i)
-  shown n i x fits h = by (inside v p r (c + i)) (v.sample p r (c + i)) (column_inside n i fits h)
-    where
-      by : (b : Bool) (y : ℕ) → b ≡ true → Ok x ≡ answer (first_row ((not b, 1) ∷ [])) y → x ≡ y
-      by true y t e = cc
-      by false y t e = absurd (both_ways false refl t)
 
   rows : (a b : Bool) → a ≡ true → b ≡ true → first_row ((not a, 1) ∷ (not b, 2) ∷ []) ≡ None
   rows a b x y = cc

@@ -13,6 +13,7 @@ use refusals::Refusal;
 
 /// A field of the frame that the store below holds, again a store: row r of field f is row 2r + f below.
 /// With a field above 1 it has no planes, and depth 1.
+// The field stays a number: a part has it so, and new takes every number.
 #[derive(Drop)]
 pub struct Field<S> {
     below: S,

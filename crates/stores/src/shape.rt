@@ -57,6 +57,7 @@ impl Plane {
 }
 
 /// Up to three planes one behind the other, and the depth. A plane that is not there has size 0.
+// An array beside the count, and no Vec: a store takes fixed memory.
 #[derive(Clone, Copy)]
 pub(crate) struct Shape {
     pub(crate) plane_count: usize,

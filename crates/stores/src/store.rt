@@ -10,6 +10,7 @@ use crate::shape::PlaneSize;
 use refusals::Refusal;
 
 /// A picture that is shown and taken sample by sample, or a run of one row at once, all of it or nothing. Telling and showing change nothing.
+// Plane, row and column stay three numbers: callers of every crate above pass them so, and a struct would ask more of them.
 pub trait Store {
     /// The picture: sizes, depth, and one number at each plane, row and column inside.
     ghost picture: { Self → Picture };

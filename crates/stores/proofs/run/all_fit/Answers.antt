@@ -1,4 +1,4 @@
-use Rattle.std.proofs.Common.{◌≡◌, ℕ, ◌-◌, ◌^◌, Bool, true, ◌&&◌, leb, ap, ◌∙◌, tests, rules}
+use Rattle.std.proofs.Common.{ℕ, ◌^◌, Bool, true, ◌&&◌, leb, ap, ◌∙◌, tests, rules}
 use Rattle.std.specs.List.{fold}
 use Rattle.std.proofs.lemmas.Nat.{pow_pos}
 use Rattle.std.proofs.lemmas.Iterator.{YieldsList-from_slice}

@@ -1,4 +1,4 @@
-use Rattle.std.proofs.Common.{sym, ap, ◌∙◌}
+use Rattle.std.proofs.Common.{ap, ◌∙◌}
 use Rattle.theory.specs.Pictures.{put_row_after}
 use Rattle.stores.specs.Fields.{field_picture}
 use Rattle.stores.proofs.Rows.{found, row_through}
@@ -10,4 +10,4 @@ returns-clause-picture g c =
     let f = c.args.self.now.field in
     let is = found v f c.args.plane c.args.row c.in_ok-row.row c.in_ok-row.ensures in
     ap (λ u. field_picture u f) (c.put_row.ensures.picture ∙ ap (λ n. put_row_after v c.args.plane n c.args.column c.args.samples.now) is.0)
-    ∙ (row_through v f c.args.plane c.args.row c.args.column c.args.samples.now is.1).picture
+    ∙ row_through v f c.args.plane c.args.row c.args.column c.args.samples.now is.1

@@ -1,5 +1,4 @@
-use Rattle.std.proofs.Common.{◌≡◌, ◌+◌, ◌-◌, ◌≤◌, length, sym, refl, ap, ◌∙◌, arith}
-use lib.Seq.{paste}
+use Rattle.std.proofs.Common.{◌+◌, ◌-◌, length, sym, refl, ap, ◌∙◌, arith}
 use Rattle.std.proofs.lemmas.Slice.{put_mid-paste, drop-put_mid}
 use Rattle.stores.specs.Words.{in_words}
 use Rattle.stores.specs.Shapes.{blank, shape_words}
@@ -22,6 +21,6 @@ pub returns-clause-rest : goal.returns-clause-rest
 returns-clause-rest c =
     let s = c.args.self.now in
     let behind =
-        drop-put_mid c.in_ok-at.at (c.in_ok-at.at + length c.args.samples.now - c.in_ok-at.at) s.words.now c.copy_from_slice.new.self
-        (shape_words s.shape) (omega (arith, c.in_ok-at.ensures.within)) (omega (arith, c.in_ok-at.ensures.within, s.laid.long)) (omega (arith, ap length c.copy_from_slice.ensures.after)) in
+    drop-put_mid c.in_ok-at.at (c.in_ok-at.at + length c.args.samples.now - c.in_ok-at.at) s.words.now c.copy_from_slice.new.self
+    (shape_words s.shape) (omega (arith, c.in_ok-at.ensures.within)) (omega (arith, c.in_ok-at.ensures.within, s.laid.long)) (omega (arith, ap length c.copy_from_slice.ensures.after)) in
     ap (λ l. (s.words.ghost_name, s.shape, l)) behind
