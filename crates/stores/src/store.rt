@@ -16,6 +16,7 @@ pub trait Store {
     ghost picture: { Self → Picture };
 
     /// Depth 1 to 16, samples below 2^depth, and 0 of every other plane and place.
+    // Data above the calls, and no law below them: a law says the same, and the proofs that cite it would name it apart from the picture.
     ghost lawful: { (x : Self) → LawfulPicture (picture x) };
 
     /// What no put changes, whether it is taken or refused: whose memory it is, how it is laid out, and what of it is no sample.
