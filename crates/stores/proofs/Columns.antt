@@ -10,7 +10,8 @@ use Rattle.std.proofs.lemmas.List.FromFn.{fill_by_all}
 use Rattle.std.proofs.lemmas.List.Folds.{list_all_more}
 use Rattle.std.proofs.lemmas.List.{length-take-le, get_or-take, take_all}
 use Rattle.std.proofs.lemmas.List.Edits.{paste_none, paste_more, length-paste, get_or-between}
-use Rattle.std.proofs.lemmas.Bool.{cases_lt, cases_order, ltb-true, leb-true, lt-ltb, le-ltb, le-leb, lt-leb, eq-eqb, ne_eqb, and_parts, and_from, and_left, and_right, cond-true, cond-false}
+use Rattle.std.proofs.lemmas.Bool.{cases_lt, cases_eq, ltb-true, leb-true, lt-ltb, le-ltb, le-leb, lt-leb, and_parts, and_from, cond-true}
+use Rattle.std.proofs.lemmas.Bool.Decides.{nat_tests}
 use Rattle.theory.specs.Octets.{all_below}
 use Rattle.theory.specs.Answers.{first_row, is_none, verdict}
 use Rattle.theory.specs.Pictures.{Picture, inside, with_samples, put, put_refusal, put_answer, put_after, columns_inside, put_row, put_row_refusal, put_row_after}
@@ -50,36 +51,22 @@ module _ (old c d : ℕ) where
   abbrev run : List ℕ → ℕ
   run xs = cond (leb c d && ltb d (c + length xs)) (get_or xs (d - c) 0) old
 
-  run_left : (xs : List ℕ) → d < c → run xs ≡ old
-  run_left xs h = cond-false _ (get_or xs (d - c) 0) old (and_left (leb c d) (ltb d (c + length xs)) (lt-leb c d h))
-
-  run_right : (xs : List ℕ) → c + length xs ≤ d → run xs ≡ old
-  run_right xs h = cond-false _ (get_or xs (d - c) 0) old (and_right (leb c d) (ltb d (c + length xs)) (le-ltb d (c + length xs) h))
-
-  run_in : (xs : List ℕ) → c ≤ d → d < c + length xs → run xs ≡ get_or xs (d - c) 0
-  run_in xs h k = cond-true _ (get_or xs (d - c) 0) old (and_from (leb c d) (ltb d (c + length xs)) (le-leb c d h) (lt-ltb d (c + length xs) k))
-
-  run_front : (xs : List ℕ) (n : ℕ) → n ≤ length xs → c ≤ d → d < c + n → run (take n xs) ≡ get_or xs (d - c) 0
-  run_front xs n h k l = run_in (take n xs) k (omega (arith, length-take-le n xs h)) ∙ get_or-take n xs (d - c) 0 (omega arith)
+  run_none : run [] ≡ old
+  run_none = elim (cases_lt d c) [ inl before ↦ grind (arith, nat_tests) | inr past ↦ grind (arith, nat_tests) ]
 
   run_more : (xs : List ℕ) (i : ℕ) → i < length xs → cond (eqb d (c + i)) (get_or xs i 0) (run (take i xs)) ≡ run (take (i + 1) xs)
   run_more xs i h =
-      elim (cases_order d (c + i)) [
-        | inl e ↦
-            let same : i ≡ d - c = omega arith in
-            cond-true (eqb d (c + i)) (get_or xs i 0) (run (take i xs)) (eq-eqb d (c + i) e)
-            ∙ ap (λ n. get_or xs n 0) same
-            ∙ sym (run_front xs (i + 1) (omega arith) (omega arith) (omega arith))
-        | inr (inl less) ↦
-            cond-false (eqb d (c + i)) (get_or xs i 0) (run (take i xs)) (ne_eqb d (c + i) (λ e. omega arith))
-            ∙ elim (cases_lt d c) [
-              | inl before ↦ run_left (take i xs) before ∙ sym (run_left (take (i + 1) xs) before)
-              | inr in_row ↦ run_front xs i (omega arith) in_row less ∙ sym (run_front xs (i + 1) (omega arith) in_row (omega arith))
-            ]
-        | inr (inr more) ↦
-            cond-false (eqb d (c + i)) (get_or xs i 0) (run (take i xs)) (ne_eqb d (c + i) (λ e. omega arith))
-            ∙ run_right (take i xs) (omega (arith, length-take-le i xs (omega arith)))
-            ∙ sym (run_right (take (i + 1) xs) (omega (arith, length-take-le (i + 1) xs (omega arith))))
+      let front = length-take-le i xs (omega arith) in
+      let more = length-take-le (i + 1) xs (omega arith) in
+      elim (cases_lt d (c + i)) [
+        | inl less ↦ elim (cases_lt d c) [
+          | inl before ↦ grind (arith, nat_tests)
+          | inr from ↦ let read = get_or-take i xs (d - c) 0 (omega arith) in let again = get_or-take (i + 1) xs (d - c) 0 (omega arith) in grind (arith, nat_tests)
+        ]
+        | inr more_or_same ↦ elim (cases_eq d (c + i)) [
+          | inl e ↦ let same : i ≡ d - c = omega arith in let again = get_or-take (i + 1) xs (d - c) 0 (omega arith) in grind (arith, nat_tests)
+          | inr past ↦ grind (arith, nat_tests)
+        ]
       ]
 
 module _ (v : Picture) (p r c : ℕ) where
@@ -87,7 +74,7 @@ module _ (v : Picture) (p r c : ℕ) where
   put_row_none = ap (with_samples v) (fun_ext (λ q. fun_ext (λ s. fun_ext (λ d. by (eqb q p && eqb s r) (v.sample q s d) d))))
     where
       by : (here : Bool) (old d : ℕ) → cond (here && leb c d && ltb d (c + 0)) (get_or [] (d - c) 0) old ≡ old
-      by true old d = elim (cases_lt d c) [ inl h ↦ run_left old c d [] h | inr h ↦ run_right old c d [] (omega arith) ]
+      by true old d = run_none old c d
       by false old d = refl
 
   pub put_row_more : (xs : List ℕ) (i : ℕ) → i < length xs → put (put_row v p r c (take i xs)) p r (c + i) (get_or xs i 0) ≡ put_row v p r c (take (i + 1) xs)
