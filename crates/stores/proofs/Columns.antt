@@ -1,71 +1,72 @@
 -- Samples of one row, from a column on: values that fit, samples put one after another, and the words that they are put in.
-use Rattle.std.proofs.Common.{◌≡◌, ℕ, zero, suc, ◌+◌, ◌-◌, ◌%◌, ◌^◌, ◌<◌, ◌≤◌, Bool, true, false, cond, not, ◌&&◌, eqb, ltb, leb, List, [], ◌∷◌, ◌++◌, map, length, get_or, take, drop, set, None, Ok, Err, sym, refl, ap, ◌∙◌, inl, inr, add-one, arith}
+use Rattle.std.proofs.Common.{◌≡◌, ℕ, zero, suc, ◌+◌, ◌-◌, ◌%◌, ◌^◌, ◌<◌, ◌≤◌, Bool, true, false, cond, not, ◌&&◌, eqb, ltb, leb, List, [], ◌∷◌, map, length, get_or, take, set, None, Err, sym, refl, ap, ◌∙◌, inl, inr, add-one, arith}
 use mathlib.Core.Path.{fun_ext}
 use lib.Bits.{bit_and}
 use lib.Seq.{paste}
-use Rattle.std.specs.List.{range_with_len, between}
+use Rattle.std.specs.List.{fold, list_all, range_with_len, between}
 use Rattle.std.proofs.lemmas.Nat.{and_mask}
+use Rattle.std.proofs.Math.Bool.{and_comm}
 use Rattle.std.proofs.lemmas.List.FromFn.{fill_by_all}
-use Rattle.std.proofs.lemmas.List.{length-take-le, get_or-take, take_all, drop-drop}
-use Rattle.std.proofs.lemmas.List.Edits.{paste_none, paste_more, length-paste, drop-paste, get_or-between}
-use Rattle.std.proofs.lemmas.Bool.{cases_lt, cases_order, ltb-true, leb-true, lt-ltb, le-ltb, le-leb, lt-leb, eq-eqb, ne_eqb, and_parts, and_from, and_left, and_right, both_ways, cond-true, cond-false}
+use Rattle.std.proofs.lemmas.List.Folds.{list_all_more}
+use Rattle.std.proofs.lemmas.List.{length-take-le, get_or-take, take_all}
+use Rattle.std.proofs.lemmas.List.Edits.{paste_none, paste_more, length-paste, get_or-between}
+use Rattle.std.proofs.lemmas.Bool.{cases_lt, cases_eq, ltb-true, leb-true, lt-ltb, le-ltb, le-leb, lt-leb, and_parts, and_from, cond-true}
+use Rattle.std.proofs.lemmas.Bool.Decides.{nat_tests}
 use Rattle.theory.specs.Octets.{all_below}
-use Rattle.theory.specs.Answers.{first_row, is_none, answer, verdict}
-use Rattle.theory.specs.Pictures.{Picture, inside, with_samples, put, show_answer, put_refusal, put_answer, put_after, columns_inside, put_row, put_row_refusal, put_row_after}
+use Rattle.theory.specs.Answers.{first_row, is_none, verdict}
+use Rattle.theory.specs.Pictures.{Picture, inside, with_samples, put, put_refusal, put_answer, put_after, columns_inside, put_row, put_row_refusal, put_row_after}
 use Rattle.theory.proofs.Searches.{all_below_at}
-use Rattle.stores.specs.Words.{word_at, in_words, row_words_after}
+use Rattle.stores.specs.Words.{word_at, in_words}
 use Rattle.stores.proofs.Places.{put_word}
 use Rattle.stores.proofs.Puts.{put_taken}
 
--- whether one value more is below the limit
-module _ (xs : List ℕ) (limit i : ℕ) (positive : 0 < limit) where
-  abbrev small : ℕ → Bool
-  small k = ltb (get_or xs k 0) limit
+-- to fold a test over values is to ask whether all pass it, and so is to ask it of each index
+module _ (p : ℕ → Bool) where
+  folded : (b : Bool) (xs : List ℕ) → fold (λ fit x. fit && p x) b xs ≡ (b && list_all p xs)
+  folded true [] = refl
+  folded false [] = refl
+  folded true (x ∷ xs) = folded (p x) xs
+  folded false (x ∷ xs) = folded false xs
 
-  one_more : all_below (i + 1) small ≡ (small i && all_below i small)
-  one_more = ap (λ n. all_below n small) (add-one i)
+  listed : (xs : List ℕ) (i : ℕ) → i ≤ length xs → list_all p (take i xs) ≡ all_below i (λ k. p (get_or xs k 0))
+  listed xs zero h = refl
+  listed xs (suc i) h =
+      ap (λ n. list_all p (take n xs)) (sym (add-one i))
+      ∙ list_all_more p xs i 0 (omega arith)
+      ∙ ap (λ b. b && p (get_or xs i 0)) (listed xs i (omega arith))
+      ∙ and_comm (all_below i (λ k. p (get_or xs k 0))) (p (get_or xs i 0))
 
-  pub more_fit : get_or xs i 0 ≤ limit - 1 → all_below (i + 1) small ≡ all_below i small
-  more_fit h = one_more ∙ ap (λ b. b && all_below i small) (lt-ltb (get_or xs i 0) limit (omega arith))
+  pub all_folded : (xs : List ℕ) → fold (λ fit x. fit && p x) true xs ≡ all_below (length xs) (λ k. p (get_or xs k 0))
+  all_folded xs = folded true xs ∙ ap (list_all p) (sym (take_all (length xs) xs (omega arith))) ∙ listed xs (length xs) (omega arith)
 
-  pub more_large : limit - 1 < get_or xs i 0 → all_below (i + 1) small ≡ false
-  more_large h = one_more ∙ ap (λ b. b && all_below i small) (le-ltb (get_or xs i 0) limit (omega arith))
+-- at most the largest value is below the limit
+pub largest_below : (limit : ℕ) → 0 < limit → ◌≡◌ {A = ℕ → Bool} (λ x. leb x (limit - 1)) (λ x. ltb x limit)
+largest_below limit positive = fun_ext (λ x. elim (cases_lt x limit) [
+  | inl h ↦ le-leb x (limit - 1) (omega arith) ∙ sym (lt-ltb x limit h)
+  | inr h ↦ lt-leb x (limit - 1) (omega arith) ∙ sym (le-ltb x limit h)
+])
 
 -- what a row holds at column d, once values stand there from column c on
 module _ (old c d : ℕ) where
   abbrev run : List ℕ → ℕ
   run xs = cond (leb c d && ltb d (c + length xs)) (get_or xs (d - c) 0) old
 
-  run_left : (xs : List ℕ) → d < c → run xs ≡ old
-  run_left xs h = cond-false _ (get_or xs (d - c) 0) old (and_left (leb c d) (ltb d (c + length xs)) (lt-leb c d h))
-
-  run_right : (xs : List ℕ) → c + length xs ≤ d → run xs ≡ old
-  run_right xs h = cond-false _ (get_or xs (d - c) 0) old (and_right (leb c d) (ltb d (c + length xs)) (le-ltb d (c + length xs) h))
-
-  run_in : (xs : List ℕ) → c ≤ d → d < c + length xs → run xs ≡ get_or xs (d - c) 0
-  run_in xs h k = cond-true _ (get_or xs (d - c) 0) old (and_from (leb c d) (ltb d (c + length xs)) (le-leb c d h) (lt-ltb d (c + length xs) k))
-
-  run_front : (xs : List ℕ) (n : ℕ) → n ≤ length xs → c ≤ d → d < c + n → run (take n xs) ≡ get_or xs (d - c) 0
-  run_front xs n h k l = run_in (take n xs) k (omega (arith, length-take-le n xs h)) ∙ get_or-take n xs (d - c) 0 (omega arith)
+  run_none : run [] ≡ old
+  run_none = elim (cases_lt d c) [ inl before ↦ grind (arith, nat_tests) | inr past ↦ grind (arith, nat_tests) ]
 
   run_more : (xs : List ℕ) (i : ℕ) → i < length xs → cond (eqb d (c + i)) (get_or xs i 0) (run (take i xs)) ≡ run (take (i + 1) xs)
   run_more xs i h =
-      elim (cases_order d (c + i)) [
-        | inl e ↦
-            let same : i ≡ d - c = omega arith in
-            cond-true (eqb d (c + i)) (get_or xs i 0) (run (take i xs)) (eq-eqb d (c + i) e)
-            ∙ ap (λ n. get_or xs n 0) same
-            ∙ sym (run_front xs (i + 1) (omega arith) (omega arith) (omega arith))
-        | inr (inl less) ↦
-            cond-false (eqb d (c + i)) (get_or xs i 0) (run (take i xs)) (ne_eqb d (c + i) (λ e. omega arith))
-            ∙ elim (cases_lt d c) [
-              | inl before ↦ run_left (take i xs) before ∙ sym (run_left (take (i + 1) xs) before)
-              | inr in_row ↦ run_front xs i (omega arith) in_row less ∙ sym (run_front xs (i + 1) (omega arith) in_row (omega arith))
-            ]
-        | inr (inr more) ↦
-            cond-false (eqb d (c + i)) (get_or xs i 0) (run (take i xs)) (ne_eqb d (c + i) (λ e. omega arith))
-            ∙ run_right (take i xs) (omega (arith, length-take-le i xs (omega arith)))
-            ∙ sym (run_right (take (i + 1) xs) (omega (arith, length-take-le (i + 1) xs (omega arith))))
+      let front = length-take-le i xs (omega arith) in
+      let more = length-take-le (i + 1) xs (omega arith) in
+      elim (cases_lt d (c + i)) [
+        | inl less ↦ elim (cases_lt d c) [
+          | inl before ↦ grind (arith, nat_tests)
+          | inr from ↦ let read = get_or-take i xs (d - c) 0 (omega arith) in let again = get_or-take (i + 1) xs (d - c) 0 (omega arith) in grind (arith, nat_tests)
+        ]
+        | inr more_or_same ↦ elim (cases_eq d (c + i)) [
+          | inl e ↦ let same : i ≡ d - c = omega arith in let again = get_or-take (i + 1) xs (d - c) 0 (omega arith) in grind (arith, nat_tests)
+          | inr past ↦ grind (arith, nat_tests)
+        ]
       ]
 
 module _ (v : Picture) (p r c : ℕ) where
@@ -73,7 +74,7 @@ module _ (v : Picture) (p r c : ℕ) where
   put_row_none = ap (with_samples v) (fun_ext (λ q. fun_ext (λ s. fun_ext (λ d. by (eqb q p && eqb s r) (v.sample q s d) d))))
     where
       by : (here : Bool) (old d : ℕ) → cond (here && leb c d && ltb d (c + 0)) (get_or [] (d - c) 0) old ≡ old
-      by true old d = elim (cases_lt d c) [ inl h ↦ run_left old c d [] h | inr h ↦ run_right old c d [] (omega arith) ]
+      by true old d = run_none old c d
       by false old d = refl
 
   pub put_row_more : (xs : List ℕ) (i : ℕ) → i < length xs → put (put_row v p r c (take i xs)) p r (c + i) (get_or xs i 0) ≡ put_row v p r c (take (i + 1) xs)
@@ -89,18 +90,11 @@ module _ (v : Picture) (p r c : ℕ) where
       → columns_inside v p r c n ≡ true
   columns_told n height width x y e = cc
 
-  -- a column among those inside is inside, so it is shown
+  -- a column among those inside is inside
   pub column_inside : (n i : ℕ) → columns_inside v p r c n ≡ true → i < n → inside v p r (c + i) ≡ true
   column_inside n i fits h =
       let both = and_parts (ltb r (v.height p)) (leb (c + n) (v.width p)) fits in
       and_from (ltb r (v.height p)) (ltb (c + i) (v.width p)) both.0 (lt-ltb (c + i) (v.width p) (omega (arith, leb-true (c + n) (v.width p) both.1)))
-
-  pub shown : (n i x : ℕ) → columns_inside v p r c n ≡ true → i < n → Ok x ≡ show_answer v p r (c + i) → x ≡ v.sample p r (c + i)
-  shown n i x fits h = by (inside v p r (c + i)) (v.sample p r (c + i)) (column_inside n i fits h)
-    where
-      by : (b : Bool) (y : ℕ) → b ≡ true → Ok x ≡ answer (first_row ((not b, 1) ∷ [])) y → x ≡ y
-      by true y t e = cc
-      by false y t e = absurd (both_ways false refl t)
 
   rows : (a b : Bool) → a ≡ true → b ≡ true → first_row ((not a, 1) ∷ (not b, 2) ∷ []) ≡ None
   rows a b x y = cc
@@ -158,27 +152,11 @@ module _ (v : Picture) (ws : List ℕ) (p r c : ℕ) (xs : List ℕ)
       ∙ written_more i h (put_words i (omega arith))
       ∙ ap (λ n. put_row (in_words v ws) p r c (take n xs)) (add-one i)
 
-  -- the words once all values are written, and their picture
-  pub all_written : (at n : ℕ) → at ≡ word_at v p r c → n ≡ length xs → paste ws at xs n ≡ row_words_after v ws p r c xs
-  all_written at n here all =
-      let kept : List ℕ → List ℕ = λ l. take (word_at v p r c) ws ++ l ++ drop (word_at v p r c + length xs) ws in
-      ap (λ m. paste ws m xs n) here
-      ∙ ap written all
-      ∙ ap kept (take_all (length xs) xs (omega arith))
-      ∙ sym (ap (λ o. cond (is_none o) (kept xs) ws) (row_taken v p r c xs fits below))
-
-  pub picture_written : (at n : ℕ) → at ≡ word_at v p r c → n ≡ length xs → in_words v (paste ws at xs n) ≡ put_row_after (in_words v ws) p r c xs
-  picture_written at n here all =
-      ap (λ m. in_words v (paste ws m xs n)) here
-      ∙ put_words n (omega arith)
-      ∙ row_after (in_words v ws) p r c xs fits below n (omega arith)
-
--- what stands behind all that is written stays
-pub behind_written : (ws : List ℕ) (at : ℕ) (xs : List ℕ) (n m : ℕ) → at + n ≤ length ws → n ≤ length xs → at + n ≤ m → drop m (paste ws at xs n) ≡ drop m ws
-behind_written ws at xs n m a b h =
-    let rest : at + n + (m - (at + n)) ≡ m = omega arith in
-    let part : (l : List ℕ) → drop m l ≡ drop (m - (at + n)) (drop (at + n) l) = λ l. sym (drop-drop (m - (at + n)) (at + n) l ∙ ap (λ k. drop k l) rest) in
-    part (paste ws at xs n) ∙ ap (drop (m - (at + n))) (drop-paste ws at xs n (omega arith) b) ∙ sym (part ws)
+  pub row_written : (at : ℕ) → at ≡ word_at v p r c → in_words v (paste ws at xs (length xs)) ≡ put_row_after (in_words v ws) p r c xs
+  row_written at here =
+      ap (λ m. in_words v (paste ws m xs (length xs))) here
+      ∙ put_words (length xs) (omega arith)
+      ∙ row_after (in_words v ws) p r c xs fits below (length xs) (omega arith)
 
 -- words under the mask of the depth are the samples of the row
 pub words_shown : (v : Picture) (ws : List ℕ) (p r c n at mask : ℕ) (ys : List ℕ) → columns_inside v p r c n ≡ true → at ≡ word_at v p r c → mask ≡ 2 ^ v.depth - 1

@@ -1,45 +1,43 @@
 -- The shape of a store made for a format: what the store keeps of it, and its picture.
-use Rattle.std.proofs.Common.{◌≡◌, ℕ, zero, suc, ◌+◌, ◌*◌, ◌<◌, ◌≤◌, Bool, true, false, cond, ltb, List, [], ◌∷◌, length, get_or, drop, sym, refl, ap, ◌∙◌, zero-add, arith, lit≤}
+use Rattle.std.proofs.Common.{◌≡◌, ℕ, zero, suc, ◌+◌, ◌<◌, ◌≤◌, Bool, true, false, cond, ltb, List, length, drop, sym, refl, ap, ◌∙◌, zero-add, arith, lit≤}
 use mathlib.Core.Path.{fun_ext}
+use Rattle.std.proofs.lemmas.Nat.{pow_pos}
 use Rattle.std.proofs.lemmas.Bool.{cond_both, cond-false, le-ltb, ltb-true, and_parts, and_left}
 use Rattle.theory.specs.Answers.{is_none}
 use Rattle.theory.specs.Layouts.{LawfulKind, LawfulLayout}
 use Rattle.theory.specs.Formats.{Format, layout_of, plane_width, plane_height, lawful_format}
 use Rattle.theory.specs.Pictures.{no_picture, with_samples}
 use Rattle.formats.specs.Frames.{frame_of, planar_words}
-use Rattle.stores.specs.declared.shape.Shape.{Shape}
 use Rattle.stores.specs.Words.{plane_start, in_words, blank_frame, planar_refusal, planar_frame}
-use Rattle.stores.specs.Shapes.{blank, shape_picture, shape_words, words_behind, frame_shape, no_shape, shape_over}
+use Rattle.stores.specs.Shapes.{LaidOut, no_plane, plane_of, blank, shape_picture, words_behind, frame_shape, no_shape, shape_over}
 use Rattle.stores.proofs.Checks.{check_passed}
 
--- what a planar store over n words keeps of its shape
-pub record Sound (s : Shape) (n : ℕ) : Type 0 where
-  pub deep : 1 ≤ s.depth
-  pub narrow : s.depth ≤ 16
-  pub few : s.planes ≤ 3
-  pub no_width : (p : ℕ) → s.planes ≤ p → get_or s.widths p 0 ≡ 0
-  pub no_height : (p : ℕ) → s.planes ≤ p → get_or s.heights p 0 ≡ 0
-  pub starting : (p : ℕ) → p < 3 → get_or s.starts p 0 ≡ plane_start (blank s).width (blank s).height p
-  pub long : shape_words s ≤ n
+-- no plane of the shape without planes is there
+absent : (p : ℕ) → plane_of no_shape p ≡ no_plane
+absent zero = refl
+absent (suc zero) = refl
+absent (suc (suc zero)) = refl
+absent (suc (suc (suc p))) = refl
 
--- three sizes, and 0 past them
-three : (w : ℕ → ℕ) (planes : ℕ) → planes ≤ 3 → ((p : ℕ) → planes ≤ p → w p ≡ 0) → (p : ℕ) → get_or (w 0 ∷ w 1 ∷ w 2 ∷ []) p 0 ≡ w p
-three w planes few none zero = refl
-three w planes few none (suc zero) = refl
-three w planes few none (suc (suc zero)) = refl
-three w planes few none (suc (suc (suc p))) = sym (none (suc (suc (suc p))) (omega arith))
+none_starts : (p : ℕ) → p < 3 → (plane_of no_shape p).start ≡ plane_start (blank no_shape).width (blank no_shape).height p
+none_starts zero k = refl
+none_starts (suc zero) k = refl
+none_starts (suc (suc zero)) k = refl
+none_starts (suc (suc (suc p))) k = absurd (omega arith)
 
-zeros : (p : ℕ) → get_or {A = ℕ} (0 ∷ 0 ∷ 0 ∷ []) p 0 ≡ 0
-zeros zero = refl
-zeros (suc zero) = refl
-zeros (suc (suc zero)) = refl
-zeros (suc (suc (suc p))) = refl
-
-starts : (p : ℕ) (w h : ℕ → ℕ) → p < 3 → get_or (0 ∷ w 0 * h 0 ∷ (w 0 * h 0 + w 1 * h 1) ∷ []) p 0 ≡ plane_start w h p
-starts zero w h k = refl
-starts (suc zero) w h k = omega arith
-starts (suc (suc zero)) w h k = omega arith
-starts (suc (suc (suc p))) w h k = omega arith
+none_laid : (n : ℕ) → LaidOut no_shape n
+none_laid n = record {
+  sizes = record {
+    depth_range = (lit≤ tt, lit≤ tt);
+    no_width = λ p _. ap (λ x. x.size.width) (absent p);
+    no_height = λ p _. ap (λ x. x.size.height) (absent p);
+    below = λ _ _ _. pow_pos 1;
+    outside = λ _ _ _ _. refl;
+  };
+  few = lit≤ tt;
+  starts = none_starts;
+  long = omega arith;
+}
 
 -- the sum of all planes, begun at 0
 from_zero : (a b c n : ℕ) → a + b + c ≤ n → 0 + a + b + c ≤ n
@@ -47,17 +45,6 @@ from_zero a b c n h = omega arith
 
 behind_zero : (a b c : ℕ) (ws : List ℕ) → drop (a + b + c) ws ≡ drop (0 + a + b + c) ws
 behind_zero a b c ws = ap (λ m. drop (m + b + c) ws) (sym (zero-add a))
-
-none_sound : (n : ℕ) → Sound no_shape n
-none_sound n = record {
-  deep = lit≤ tt;
-  narrow = lit≤ tt;
-  few = lit≤ tt;
-  no_width = λ p _. zeros p;
-  no_height = λ p _. zeros p;
-  starting = λ p k. starts p (blank no_shape).width (blank no_shape).height k;
-  long = omega arith;
-}
 
 module _ (f : Format) where
   no_plane_width : (p : ℕ) → f.kind.planes ≤ p → plane_width (frame_of f) p ≡ 0
@@ -77,19 +64,34 @@ module _ (f : Format) where
 
   module _ (few : f.kind.planes ≤ 3) where
     widths_are : (p : ℕ) → (blank (frame_shape f)).width p ≡ plane_width (frame_of f) p
-    widths_are = three (plane_width (frame_of f)) f.kind.planes few no_plane_width
+    widths_are zero = refl
+    widths_are (suc zero) = refl
+    widths_are (suc (suc zero)) = refl
+    widths_are (suc (suc (suc p))) = sym (no_plane_width (suc (suc (suc p))) (omega arith))
 
     heights_are : (p : ℕ) → (blank (frame_shape f)).height p ≡ plane_height (frame_of f) p
-    heights_are = three (plane_height (frame_of f)) f.kind.planes few no_plane_height
+    heights_are zero = refl
+    heights_are (suc zero) = refl
+    heights_are (suc (suc zero)) = refl
+    heights_are (suc (suc (suc p))) = sym (no_plane_height (suc (suc (suc p))) (omega arith))
 
-  frame_sound : (n : ℕ) → LawfulLayout f.kind f.depth → planar_words f ≤ n → Sound (frame_shape f) n
-  frame_sound n laws fits = record {
-    deep = omega (arith, laws.depth_range.0);
-    narrow = laws.depth_range.1;
+  starts_are : (p : ℕ) → p < 3 → (plane_of (frame_shape f) p).start ≡ plane_start (blank (frame_shape f)).width (blank (frame_shape f)).height p
+  starts_are zero k = refl
+  starts_are (suc zero) k = refl
+  starts_are (suc (suc zero)) k = refl
+  starts_are (suc (suc (suc p))) k = absurd (omega arith)
+
+  frame_laid : (n : ℕ) → LawfulLayout f.kind f.depth → planar_words f ≤ n → LaidOut (frame_shape f) n
+  frame_laid n laws fits = record {
+    sizes = record {
+      depth_range = (omega (arith, laws.depth_range.0), laws.depth_range.1);
+      no_width = λ p h. widths_are laws.planes_range.1 p ∙ no_plane_width p h;
+      no_height = λ p h. heights_are laws.planes_range.1 p ∙ no_plane_height p h;
+      below = λ _ _ _. pow_pos f.depth;
+      outside = λ _ _ _ _. refl;
+    };
     few = laws.planes_range.1;
-    no_width = λ p h. widths_are laws.planes_range.1 p ∙ no_plane_width p h;
-    no_height = λ p h. heights_are laws.planes_range.1 p ∙ no_plane_height p h;
-    starting = λ p k. starts p (blank (frame_shape f)).width (blank (frame_shape f)).height k;
+    starts = starts_are;
     long = from_zero _ _ _ n fits;
   }
 
@@ -101,16 +103,17 @@ same_words planes depth w w' h h' ws x y = cc
 
 none_picture : (ws : List ℕ) → shape_picture no_shape ws ≡ no_picture
 none_picture ws =
-    same_words 0 1 (blank no_shape).width (λ _. 0) (blank no_shape).height (λ _. 0) ws (fun_ext zeros) (fun_ext zeros)
+    same_words 0 1 (blank no_shape).width (λ _. 0) (blank no_shape).height (λ _. 0) ws
+    (fun_ext (λ p. ap (λ x. x.size.width) (absent p))) (fun_ext (λ p. ap (λ x. x.size.height) (absent p)))
     ∙ ap (with_samples no_picture) (fun_ext (λ p. fun_ext (λ r. fun_ext (λ c. cond-false _ _ 0 (and_left (ltb r 0) (ltb c 0) (le-ltb r 0 (omega arith)))))))
 
 module _ (f : Format) (law : LawfulKind f.kind) where
-  -- the shape of a store made for the format is sound, and its picture is the format's
-  pub over_sound : (n : ℕ) → Sound (shape_over f n) n
-  over_sound n =
-      cond_both (is_none (planar_refusal f n)) (frame_shape f) no_shape (λ s. Sound s n)
-      (λ e. let passed = check_passed f n e in frame_sound f n (layout f law passed.0) passed.1)
-      (λ _. none_sound n)
+  -- a store made for the format is laid out, and its picture is the format's
+  pub over_laid : (n : ℕ) → LaidOut (shape_over f n) n
+  over_laid n =
+      cond_both (is_none (planar_refusal f n)) (frame_shape f) no_shape (λ s. LaidOut s n)
+      (λ e. let passed = check_passed f n e in frame_laid f n (layout f law passed.0) passed.1)
+      (λ _. none_laid n)
 
   pub over_picture : (n : ℕ) (ws : List ℕ) → length ws ≡ n → shape_picture (shape_over f n) ws ≡ planar_frame f ws
   over_picture n ws e = ap (λ m. shape_picture (shape_over f m) ws) (sym e) ∙ go (is_none (planar_refusal f (length ws))) refl

@@ -5,7 +5,7 @@ use Rattle.std.proofs.lemmas.Bool.{cond_both, cond-false}
 use Rattle.theory.specs.Pictures.{Picture, inside, LawfulPicture}
 use Rattle.stores.specs.declared.shape.Shape.{Shape}
 use Rattle.stores.specs.declared.planar.Planar.{Planar}
-use Rattle.stores.specs.Words.{word_at}
+use Rattle.stores.specs.Words.{word_at, in_words}
 use Rattle.stores.specs.Shapes.{blank, shape_picture, words_behind}
 
 abbrev pub planar_picture : Planar → Picture
@@ -18,17 +18,18 @@ PlanarRest = ℕ × Shape × List ℕ
 abbrev pub planar_rest : Planar → PlanarRest
 planar_rest s = (s.words.ghost_name, s.shape, words_behind s.shape s.words.now)
 
+-- words hold a lawful picture of lawful sizes
+words_lawful : (v : Picture) (ws : List ℕ) → LawfulPicture v → LawfulPicture (in_words v ws)
+words_lawful v ws l = record {
+  depth_range = l.depth_range;
+  no_width = l.no_width;
+  no_height = l.no_height;
+  below = λ p r c.
+      cond_both (inside v p r c) _ 0 (λ x. x < 2 ^ v.depth)
+      (λ _. mod_below (slice_index ws (word_at v p r c)) (2 ^ v.depth) (pow_pos v.depth))
+      (λ _. pow_pos v.depth);
+  outside = λ p r c. cond-false (inside v p r c) (slice_index ws (word_at v p r c) % 2 ^ v.depth) 0;
+}
+
 pub planar_lawful : (s : Planar) → LawfulPicture (planar_picture s)
-planar_lawful s =
-    let v = blank s.shape in
-    let ws = s.words.now in
-    record {
-      depth_range = (s.deep, s.narrow);
-      no_width = s.no_width;
-      no_height = s.no_height;
-      below = λ p r c.
-          cond_both (inside v p r c) _ 0 (λ x. x < 2 ^ v.depth)
-          (λ _. mod_below (slice_index ws (word_at v p r c)) (2 ^ v.depth) (pow_pos v.depth))
-          (λ _. pow_pos v.depth);
-      outside = λ p r c. cond-false (inside v p r c) (slice_index ws (word_at v p r c) % 2 ^ v.depth) 0;
-    }
+planar_lawful s = words_lawful (blank s.shape) s.words.now s.laid.sizes

@@ -1,7 +1,9 @@
 //! One field of the frame in another store.
 
-ghost use Rattle.std.specs.Prelude.{◌≡◌, ℕ, ◌+◌, ◌*◌, ◌^◌, ◌<◌, ◌≤◌};
+ghost use Rattle.std.specs.Prelude.{◌≡◌, ℕ, ◌+◌, ◌*◌, ◌^◌, ◌<◌, ◌≤◌, cond, nat_le};
+ghost use Rattle.std.specs.Option.{option_copied, ok_or};
 ghost use Rattle.refusals.specs.Numbers.{numbered};
+ghost use Rattle.refusals.specs.declared.Refusal.TheVariants.{NoSuchPlace};
 ghost use Rattle.theory.specs.Pictures.{Picture, put_answer, put_after, put_row_answer, put_row_after};
 ghost use Rattle.stores.specs.Keeping.{IfRefused};
 ghost use Rattle.stores.specs.Fields.{field_check, field_picture, field_lawful, field_rest, below_after, below_row_after, frame_row};
@@ -11,6 +13,7 @@ use refusals::Refusal;
 
 /// A field of the frame that the store below holds, again a store: row r of field f is row 2r + f below.
 /// With a field above 1 it has no planes, and depth 1.
+// The field stays a number: a part has it so, and new takes every number.
 #[derive(Drop)]
 pub struct Field<S> {
     below: S,
@@ -22,10 +25,10 @@ impl<S> Field<S> {
     pub fn check(field: u8) -> Result<(), Refusal>
         ensures { numbered result ≡ field_check field }
     {
-        if field > 1 {
-            return Err(Refusal::NoSuchField);
+        match field {
+            0 | 1 => Ok(()),
+            _ => Err(Refusal::NoSuchField),
         }
-        Ok(())
     }
 
     /// The field of the frame below.
@@ -46,6 +49,13 @@ impl<S> Field<S> {
 }
 
 impl<S: Store> Field<S> {
+    // The frame, where it has such a field.
+    fn frame(&self) -> Option<&S>
+        ensures { option_copied result ≡ cond (nat_le self.now.field 1) (Some self.now.below) None }
+    {
+        (self.field <= 1).then_some(&self.below)
+    }
+
     // Rows of a plane.
     fn rows(&self, plane: usize) -> usize
         ensures value { result ≡ (field_picture (S.Store.picture self.now.below) self.now.field).height plane }
@@ -53,21 +63,20 @@ impl<S: Store> Field<S> {
     {
         let rows = self.below.height(plane);
         match self.field {
-            0 => rows / 2 + rows % 2,
+            0 => rows.div_ceil(2),
             1 => rows / 2,
             _ => 0,
         }
     }
 
     // The frame's row, where the field has this one.
-    fn row_below(&self, plane: usize, row: usize) -> Option<usize>
-        ensures { result ≡ frame_row (S.Store.picture self.now.below) self.now.field plane row }
+    fn row_below(&self, plane: usize, row: usize) -> Result<usize, Refusal>
+        ensures { result ≡ ok_or (frame_row (S.Store.picture self.now.below) self.now.field plane row) NoSuchPlace }
     {
-        if row < self.rows(plane) {
-            Some(2 * row + self.field as usize)
-        } else {
-            None
+        if row >= self.rows(plane) {
+            return Err(Refusal::NoSuchPlace);
         }
+        Ok(2 * row + self.field as usize)
     }
 }
 
@@ -81,19 +90,11 @@ impl<S: Store> Store for Field<S> {
     ghost rest = { λ s. field_rest (S.Store.rest s.below) (S.Store.picture s.below) s.field };
 
     fn planes(&self) -> usize {
-        if self.field > 1 {
-            0
-        } else {
-            self.below.planes()
-        }
+        self.frame().map_or(0, |frame| frame.planes())
     }
 
     fn width(&self, plane: usize) -> usize {
-        if self.field > 1 {
-            0
-        } else {
-            self.below.width(plane)
-        }
+        self.frame().map_or(0, |frame| frame.width(plane))
     }
 
     fn height(&self, plane: usize) -> usize {
@@ -101,18 +102,12 @@ impl<S: Store> Store for Field<S> {
     }
 
     fn depth(&self) -> u8 {
-        if self.field > 1 {
-            1
-        } else {
-            self.below.depth()
-        }
+        self.frame().map_or(1, |frame| frame.depth())
     }
 
     fn show(&self, plane: usize, row: usize, column: usize) -> Result<u16, Refusal> {
-        match self.row_below(plane, row) {
-            Some(row) => self.below.show(plane, row, column),
-            None => Err(Refusal::NoSuchPlace),
-        }
+        let row = self.row_below(plane, row)?;
+        self.below.show(plane, row, column)
     }
 
     fn put(&mut self, plane: usize, row: usize, column: usize, value: u16) -> Result<(), Refusal>
@@ -122,10 +117,8 @@ impl<S: Store> Store for Field<S> {
         ensures kept { IfRefused result (self.new ≡ self.old) }
         ensures below { S.Store.picture self.new.below ≡ below_after (S.Store.picture self.old.below) self.old.field plane row column value }
     {
-        match self.row_below(plane, row) {
-            Some(row) => self.below.put(plane, row, column, value),
-            None => Err(Refusal::NoSuchPlace),
-        }
+        let row = self.row_below(plane, row)?;
+        self.below.put(plane, row, column, value)
     }
 
     fn show_row(
@@ -135,10 +128,8 @@ impl<S: Store> Store for Field<S> {
         column: usize,
         samples: &mut [u16],
     ) -> Result<(), Refusal> {
-        match self.row_below(plane, row) {
-            Some(row) => self.below.show_row(plane, row, column, samples),
-            None => Err(Refusal::NoSuchPlace),
-        }
+        let row = self.row_below(plane, row)?;
+        self.below.show_row(plane, row, column, samples)
     }
 
     fn put_row(
@@ -154,9 +145,7 @@ impl<S: Store> Store for Field<S> {
         ensures kept { IfRefused result (self.new ≡ self.old) }
         ensures below { S.Store.picture self.new.below ≡ below_row_after (S.Store.picture self.old.below) self.old.field plane row column samples.now }
     {
-        match self.row_below(plane, row) {
-            Some(row) => self.below.put_row(plane, row, column, samples),
-            None => Err(Refusal::NoSuchPlace),
-        }
+        let row = self.row_below(plane, row)?;
+        self.below.put_row(plane, row, column, samples)
     }
 }

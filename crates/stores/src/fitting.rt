@@ -2,6 +2,7 @@
 
 ghost use Rattle.std.specs.Prelude.{◌≡◌, ◌&&◌, ◌==◌};
 ghost use Rattle.formats.specs.Meaning.{part_of};
+ghost use Rattle.theory.specs.Octets.{all_below};
 ghost use Rattle.theory.specs.Formats.{plane_width, plane_height};
 ghost use Rattle.theory.specs.Pictures.{fits_part};
 
@@ -14,14 +15,15 @@ pub fn fits<K: GroupKind, S: Store>(part: &Part<K>, store: &S) -> bool
     ensures { result ≡ fits_part (S.Store.picture store.now) (part_of K.GroupKind.kind part.now) }
 {
     store.planes() == part.format.kind.plane_count()
-        && plane_fits(part, store, 2)
-        && plane_fits(part, store, 1)
-        && plane_fits(part, store, 0)
+        && planes_fit(part, store)
         && store.depth() == part.format.depth
 }
 
-fn plane_fits<K: GroupKind, S: Store>(part: &Part<K>, store: &S, plane: usize) -> bool
-    ensures { let t = part_of K.GroupKind.kind part.now in let v = S.Store.picture store.now in result ≡ (v.width plane == plane_width t plane && v.height plane == plane_height t plane) }
+fn planes_fit<K: GroupKind, S: Store>(part: &Part<K>, store: &S) -> bool
+    ensures { let t = part_of K.GroupKind.kind part.now in let v = S.Store.picture store.now in result ≡ all_below 3 (λ p. v.width p == plane_width t p && v.height p == plane_height t p) }
 {
-    store.width(plane) == part.plane_width(plane) && store.height(plane) == part.plane_height(plane)
+    (0..3).all(|plane| {
+        store.width(plane) == part.plane_width(plane)
+            && store.height(plane) == part.plane_height(plane)
+    })
 }

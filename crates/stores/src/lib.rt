@@ -8,7 +8,6 @@ mod field;
 mod fitting;
 mod loan;
 mod planar;
-mod planar_store;
 mod run;
 mod shape;
 mod store;

@@ -5,15 +5,18 @@ ghost use Rattle.refusals.specs.Numbers.{numbered};
 ghost use Rattle.theory.specs.Pictures.{Picture, LawfulPicture, show_answer, put_answer, put_after, show_row_answer, show_row_after, put_row_answer, put_row_after};
 ghost use Rattle.stores.specs.Keeping.{IfRefused};
 
-use crate::run::{all_fit, has_columns};
+use crate::run::all_fit;
+use crate::shape::PlaneSize;
 use refusals::Refusal;
 
 /// A picture that is shown and taken sample by sample, or a run of one row at once, all of it or nothing. Telling and showing change nothing.
+// Plane, row and column stay three numbers: callers of every crate above pass them so, and a struct would ask more of them.
 pub trait Store {
     /// The picture: sizes, depth, and one number at each plane, row and column inside.
     ghost picture: { Self → Picture };
 
     /// Depth 1 to 16, samples below 2^depth, and 0 of every other plane and place.
+    // Data above the calls, and no law below them: a law says the same, and the proofs that cite it would name it apart from the picture.
     ghost lawful: { (x : Self) → LawfulPicture (picture x) };
 
     /// What no put changes, whether it is taken or refused: whose memory it is, how it is laid out, and what of it is no sample.
@@ -59,17 +62,15 @@ pub trait Store {
         ensures answer { numbered result ≡ show_row_answer (picture self.now) plane row column (length samples.old) }
         ensures samples { samples.new ≡ show_row_after (picture self.now) plane row column samples.old }
     {
-        if !has_columns(
-            self.height(plane),
-            self.width(plane),
-            row,
-            column,
-            samples.len(),
-        ) {
+        let size = PlaneSize {
+            width: self.width(plane),
+            height: self.height(plane),
+        };
+        if !size.has_columns(row, column, samples.len()) {
             return Err(Refusal::NoSuchPlace);
         }
-        for i in 0..samples.len() {
-            samples[i] = self.show(plane, row, column + i)?;
+        for (i, sample) in samples.iter_mut().enumerate() {
+            *sample = self.show(plane, row, column + i)?;
         }
         Ok(())
     }
@@ -88,20 +89,18 @@ pub trait Store {
         ensures rest { rest self.new ≡ rest self.old }
         ensures kept { IfRefused result (self.new ≡ self.old) }
     {
-        if !has_columns(
-            self.height(plane),
-            self.width(plane),
-            row,
-            column,
-            samples.len(),
-        ) {
+        let size = PlaneSize {
+            width: self.width(plane),
+            height: self.height(plane),
+        };
+        if !size.has_columns(row, column, samples.len()) {
             return Err(Refusal::NoSuchPlace);
         }
         if !all_fit(samples, self.depth()) {
             return Err(Refusal::ValueTooLarge);
         }
-        for i in 0..samples.len() {
-            self.put(plane, row, column + i, samples[i])?;
+        for (i, sample) in samples.iter().enumerate() {
+            self.put(plane, row, column + i, *sample)?;
         }
         Ok(())
     }

@@ -1,16 +1,15 @@
-use Rattle.std.proofs.Common.{◌^◌, sym, ◌∙◌, arith}
+use Rattle.std.proofs.Common.{ℕ, ◌^◌, Bool, true, ◌&&◌, leb, ap, ◌∙◌, tests, rules}
+use Rattle.std.specs.List.{fold}
 use Rattle.std.proofs.lemmas.Nat.{pow_pos}
-use Rattle.stores.proofs.Columns.{more_fit, more_large}
+use Rattle.std.proofs.lemmas.Iterator.{YieldsList-from_slice}
+use Rattle.std.proofs.lemmas.Iterator.Consumers.{fold_from_yields_List}
+use Rattle.stores.proofs.Columns.{all_folded, largest_below}
 use Rattle.stores.proofs.run.all_fit.Goals as goal
-use Rattle.stores.proofs.run.all_fit.Goals.{then-value-most, else-value-most}
 
-pub loop-value-preserved : goal.loop-value-preserved
-loop-value-preserved c =
+pub returns : goal.returns
+returns c =
     let xs = c.args.values.now in
-    let limit = 2 ^ c.args.depth in
-    let i = c.loop-value.value-index in
-    let positive = pow_pos c.args.depth in
-    elim c.if-value-most.branch [
-      | then-value-most w ↦ w.fit-is ∙ sym (more_large xs limit i positive (omega (arith, w.if-value-most.true)))
-      | else-value-most w ↦ w.fit-is ∙ c.loop-value.invariant ∙ sym (more_fit xs limit i positive (omega (arith, w.if-value-most.false)))
-    ]
+    let test = ap (λ m x. leb x m) c.largest-most.ensures ∙ largest_below (2 ^ c.args.depth) (pow_pos c.args.depth) in
+    fold_from_yields_List _ (λ fit x. fit && leb x c.largest-most.result) true c.fold.result c.fold.ensures.ran (YieldsList-from_slice xs cc) (λ a x b q k. search (rules, tests))
+    ∙ ap (λ (p : ℕ → Bool). fold (λ fit x. fit && p x) true xs) test
+    ∙ all_folded _ xs

@@ -1,26 +1,16 @@
-use Rattle.std.proofs.Common.{◌+◌, ◌*◌, ◌^◌, ◌<◌, ltb, leb, length, get_or, sym, arith}
-use Rattle.std.proofs.lemmas.Bool.{and_parts, ltb-true, leb-true}
-use Rattle.stores.specs.Shapes.{blank}
-use Rattle.stores.proofs.Places.{run_before}
+use Rattle.std.proofs.Common.{◌+◌, ◌*◌, ◌≤◌, arith}
+use Rattle.stores.specs.Shapes.{shape_words}
+use Rattle.stores.proofs.Puts.{run_inside}
 use Rattle.stores.proofs.planar.Planar.first_word.Goals as goal
 
--- the word lies in the memory, or just behind it
-bounded : (c : goal.After-result-1)
-    → get_or c.args.self.now.shape.starts c.args.plane 0 + c.args.row * get_or c.args.self.now.shape.widths c.args.plane 0 + c.args.column < 2 ^ 64
-bounded c =
-    let v = blank c.args.self.now.shape in
-    let p = c.args.plane in
-    let start = c.args.self.now.starting p c.if-plane-ge3.false in
-    let long = c.args.self.now.long in
-    let k : length c.args.self.now.words.now < 2 ^ 64 = omega arith in
-    let both = and_parts (ltb c.args.row (v.height p)) (leb (c.args.column + c.args.count) (v.width p)) (sym c.if-has_columns.ensures) in
-    omega (arith, run_before v.width v.height p 3 c.args.row c.args.column c.args.count c.if-plane-ge3.false (ltb-true c.args.row (v.height p) both.0) (leb-true (c.args.column + c.args.count) (v.width p) both.1))
+within : (c : goal.Else-not-has_columns)
+    → c.plane-plane.result.start + c.args.row * c.plane-plane.result.size.width + c.args.column + c.args.count ≤ shape_words c.args.self.now.shape
+within c =
+    run_inside c.args.self.now.shape _ c.args.self.now.laid c.args.plane c.args.row c.args.column c.args.count
+    c.plane-plane.result c.plane-plane.ensures c.if-not-has_columns.ensures
 
-pub overflow_mul-result : goal.overflow_mul-result
-overflow_mul-result c = omega (arith, bounded c)
+pub overflow_add-result-2 : goal.overflow_add-result-2
+overflow_add-result-2 c = omega (arith, within c, c.args.self.now.laid.long)
 
-pub overflow_add-result : goal.overflow_add-result
-overflow_add-result c = omega (arith, bounded c)
-
-pub overflow_add-result-then-has_columns : goal.overflow_add-result-then-has_columns
-overflow_add-result-then-has_columns c = omega (arith, bounded c)
+pub returns-clause-within : goal.returns-clause-within
+returns-clause-within c = within c

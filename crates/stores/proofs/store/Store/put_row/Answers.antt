@@ -1,8 +1,7 @@
-use Rattle.std.proofs.Common.{◌≡◌, ◌+◌, ◌^◌, true, ltb, length, get_or, sym, refl, ap, ◌∙◌}
+use Rattle.std.proofs.Common.{◌≡◌, ◌+◌, ◌^◌, true, ltb, length, get_or, sym, ap, ◌∙◌}
 use Rattle.theory.specs.Octets.{all_below}
-use Rattle.theory.specs.Answers.{verdict}
 use Rattle.theory.specs.Pictures.{columns_inside, put_after}
-use Rattle.stores.proofs.Columns.{columns_told, put_row_none, row_taken, step_after, step_never_refused, row_after}
+use Rattle.stores.proofs.Columns.{columns_told, step_after, step_never_refused}
 use Rattle.stores.proofs.store.Store.put_row.Given as given
 use Rattle.stores.proofs.store.Store.put_row.Goals as goal
 use Rattle.stores.proofs.store.Store.put_row.Goals.{Else-not-all_fit}
@@ -17,9 +16,6 @@ module _ (g : given.Over) (c : goal.Else-not-all_fit g) where
   below =
       ap (λ d. all_below (length c.args.samples.now) (λ i. ltb (get_or c.args.samples.now i 0) (2 ^ d))) (sym c.depth.ensures)
       ∙ sym c.if-not-all_fit.ensures
-
-pub loop-i-init : goal.loop-i-init
-loop-i-init g c = (sym (put_row_none (g.Self.Store.picture c.args.self.now) c.args.plane c.args.row c.args.column), refl)
 
 pub returns-in_err-put : goal.returns-in_err-put
 returns-in_err-put g c =
@@ -42,18 +38,3 @@ loop-i-preserved g c =
           ∙ step_after v p r k xs (fits g d) (below g d) i c.loop-i-test.true,
       c.put.ensures.rest ∙ c.loop-i.invariant.1,
     )
-
-pub returns : goal.returns
-returns g c =
-    let v = g.Self.Store.picture c.args.self.now in
-    let p = c.args.plane in
-    let r = c.args.row in
-    let k = c.args.column in
-    let xs = c.args.samples.now in
-    let d = (goal.at.returns g c).Else-not-all_fit in
-    record {
-      answer = sym (ap verdict (row_taken v p r k xs (fits g d) (below g d)));
-      picture = c.loop-i.invariant.0 ∙ row_after v p r k xs (fits g d) (below g d) c.loop-i.i c.loop-i-test.false;
-      rest = c.loop-i.invariant.1;
-      kept = tt;
-    }
