@@ -1,6 +1,7 @@
 -- The grid of a store: that of the frame where the check passes, the empty one where it refuses.
-use Rattle.std.proofs.Common.{◌≡◌, ℕ, zero, suc, ◌+◌, ◌<◌, ◌≤◌, Bool, true, false, cond, not, ◌&&◌, ltb, List, [], ◌∷◌, length, is_ok, Some, None, Ok, Err, Option, Result, sym, refl, ap, ◌∙◌, ap₂, zero-le, arith, lit≤}
+use Rattle.std.proofs.Common.{◌≡◌, ℕ, zero, suc, ◌+◌, ◌<◌, ◌≤◌, Bool, true, false, cond, not, ◌&&◌, ltb, List, [], ◌∷◌, length, is_ok, Some, None, Ok, Err, Option, Result, sym, refl, ap, ◌∙◌, ap₂, zero-le, not-suc-le-zero, arith, lit≤, replicate}
 use mathlib.Core.Path.{fun_ext}
+use native.Mathlib.Bridge.{le_prop}
 use Rattle.std.proofs.lemmas.Bool.{and_parts, ltb-true, ltb-false, cond-true, cond-false, and_left, le-ltb, not_from_false, both_ways, false≢true}
 use Rattle.refusals.specs.declared.Refusal.{Refusal}
 use Rattle.refusals.specs.Numbers.{numbered}
@@ -12,7 +13,7 @@ use Rattle.theory.specs.Pictures.{no_picture}
 use Rattle.formats.specs.Frames.{frame_of, packed_octets}
 use Rattle.packed.specs.declared.grid.Grid.{Grid}
 use Rattle.packed.specs.BitRuns.{bit_at, run_at}
-use Rattle.packed.specs.Packs.{accepted, packed_frame, packed_picture, frame_beside, bit_of, bit_beside}
+use Rattle.packed.specs.Packs.{Covered, accepted, packed_frame, packed_picture, frame_beside, bit_of, bit_beside}
 use Rattle.packed.specs.Grids.{width_at, height_at, first_bit, bit_plane, bit_row, bit_column, empty_grid, grid_picture, grid_beside, Copies, Sound}
 use Rattle.packed.proofs.Linking.{same_bit, same_picture, same_beside, copies_sound}
 
@@ -69,6 +70,36 @@ module _ (f : Format) (room : ℕ) where
         first = λ _. same_bit g t copies;
       }
 
+-- a grid of the empty one's numbers is the empty one
+pub same_empty : (covered : Covered 0 0 0) (deep : 1 ≤ 1) (narrow : 1 ≤ 16) (few : 0 ≤ 24) → ◌≡◌ {A = Grid} (record {
+  plane_count = 0;
+  depth = 1;
+  planes = replicate 3 (record { width = 0; height = 0; group_width = 0; group_height = 0; covered = covered });
+  row_groups = 0;
+  octets = 0;
+  positions = 0;
+  places = replicate 24 (record { plane = 0; row = 0; column = 0 });
+  size = 0;
+  deep = deep;
+  narrow = narrow;
+  few = few;
+}) empty_grid
+same_empty covered deep narrow few =
+    let never : covered ≡ (λ h. absurd (not-suc-le-zero h)) = fun_ext (λ h. absurd (not-suc-le-zero h)) in
+    λ i. record {
+      plane_count = 0;
+      depth = 1;
+      planes = replicate 3 (record { width = 0; height = 0; group_width = 0; group_height = 0; covered = never i });
+      row_groups = 0;
+      octets = 0;
+      positions = 0;
+      places = replicate 24 (record { plane = 0; row = 0; column = 0 });
+      size = 0;
+      deep = le_prop deep (lit≤ tt) i;
+      narrow = le_prop narrow (lit≤ tt) i;
+      few = le_prop few (lit≤ tt) i;
+    }
+
 -- the empty grid has no rows and no columns, so no place
 no_rows : (p : ℕ) → height_at empty_grid p ≡ 0
 no_rows zero = refl
@@ -87,11 +118,7 @@ nowhere p r c = and_left (ltb r (height_at empty_grid p)) (ltb c (width_at empty
 
 empty_sound : (room : ℕ) → Sound empty_grid room
 empty_sound room = record {
-  deep = lit≤ tt;
-  narrow = lit≤ tt;
-  few = lit≤ tt;
   none = λ p h. ap₂ (λ x y. x + y) (no_columns p) (no_rows p);
-  covered = λ p h. absurd (omega (arith, no_rows p));
   within = λ p r c h. absurd (omega (arith, no_rows p, h.0));
   owned = λ x k h. absurd (omega (arith, no_rows x.0, h.0));
   long = zero-le;
