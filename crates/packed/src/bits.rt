@@ -23,7 +23,7 @@ impl BitRun {
     pub(crate) fn read(&self, octets: &[u8]) -> u16
         ensures { result ≡ run_at octets.now self.now.first self.now.depth }
     {
-        let above = window(octets, self.first / 8) >> self.shift();
+        let above = Window::of(octets, self.first / 8).number >> self.shift();
         (above % (1 << self.depth)) as u16
     }
 
@@ -34,26 +34,59 @@ impl BitRun {
         ensures { (k : ℕ) → bit_at octets.new k ≡ bit_after octets.old self.now.first self.now.depth value k }
     {
         let i = self.first / 8;
-        let number = spliced(window(octets, i), self.shift(), u32::from(self.depth), u32::from(value));
-        set_window(octets, i, number);
+        Window::of(octets, i).spliced(self, value).write(octets, i);
     }
 
-    // How many bits of the window stand behind the run.
+    // How many bits of the window, that begins with the octet of the run's first bit, stand behind the run.
     fn shift(&self) -> u32
         ensures { result ≡ 24 - self.now.first % 8 - self.now.depth }
     {
-        24 - (self.first % 8) as u32 - u32::from(self.depth)
+        24 - (self.first % 8) as u32 - self.depth as u32
     }
 }
 
-// Three octets as one number, each past the end as 0.
-fn window(octets: &[u8], i: usize) -> u32
-    requires { i < 2 ^ 63 }
-    ensures is { result ≡ window_at octets.now i }
-    ensures below { result < 2 ^ 24 }
-    ensures octets { (slice_index octets.now i < 256) × (slice_index octets.now (i + 1) < 256) × (slice_index octets.now (i + 2) < 256) }
-{
-    u32::from_be_bytes([0, octet(octets, i), octet(octets, i + 1), octet(octets, i + 2)])
+/// Three octets as one number.
+#[derive(Clone, Copy)]
+struct Window {
+    number: u32,
+    ghost below: { number < 2 ^ 24 },
+}
+
+impl Window {
+    // The window from an octet on, each octet past the end as 0.
+    fn of(octets: &[u8], i: usize) -> Window
+        requires { i < 2 ^ 63 }
+        ensures is { result.number ≡ window_at octets.now i }
+        ensures octets { (slice_index octets.now i < 256) × (slice_index octets.now (i + 1) < 256) × (slice_index octets.now (i + 2) < 256) }
+    {
+        Window {
+            number: u32::from_be_bytes([0, octet(octets, i), octet(octets, i + 1), octet(octets, i + 2)]),
+        }
+    }
+
+    // The window once the bits of a run in it stand for a value.
+    fn spliced(self, run: &BitRun, value: u16) -> Window
+        requires { value < 2 ^ run.now.depth }
+        ensures { result.number ≡ splice_of self.number (24 - run.now.first % 8 - run.now.depth) run.now.depth value }
+    {
+        let shift = run.shift();
+        let above = self.number >> (shift + run.depth as u32);
+        let below = self.number % (1 << shift);
+        Window {
+            number: (((above << run.depth) + value as u32) << shift) + below,
+        }
+    }
+
+    // Sets the octets from one on, and none past the end.
+    fn write(self, octets: &mut [u8], i: usize)
+        requires { i < 2 ^ 63 }
+        ensures { octets.new ≡ window_set octets.old i self.number }
+    {
+        let [_, high, middle, low] = self.number.to_be_bytes();
+        set_octet(octets, i, high);
+        set_octet(octets, i + 1, middle);
+        set_octet(octets, i + 2, low);
+    }
 }
 
 // The octet at an index, 0 past the end.
@@ -63,36 +96,11 @@ fn octet(octets: &[u8], i: usize) -> u8
     octets.get(i).copied().unwrap_or(0)
 }
 
-// Sets three octets from one number, and none past the end.
-fn set_window(octets: &mut [u8], i: usize, number: u32)
-    requires low { i < 2 ^ 63 }
-    requires below { number < 2 ^ 24 }
-    ensures { octets.new ≡ window_set octets.old i number }
-{
-    let [_, high, middle, low] = number.to_be_bytes();
-    set_octet(octets, i, high);
-    set_octet(octets, i + 1, middle);
-    set_octet(octets, i + 2, low);
-}
-
-// Sets the octet at an index, and none past the end. No `get_mut`: of a slice that lent an element so, a proof knows no element.
+// Sets the octet at an index, and none past the end. Not by `get_mut`: that proof did not close, since none knows what a slice holds that lent an element.
 fn set_octet(octets: &mut [u8], i: usize, value: u8)
     ensures { octets.new ≡ slice_set octets.old i value }
 {
     if i < octets.len() {
         octets[i] = value;
     }
-}
-
-// A window with the `depth` bits above its lowest `shift` replaced.
-fn spliced(window: u32, shift: u32, depth: u32, value: u32) -> u32
-    requires window { window < 2 ^ 24 }
-    requires room { shift + depth ≤ 24 }
-    requires small { value < 2 ^ depth }
-    ensures is { result ≡ splice_of window shift depth value }
-    ensures below { result < 2 ^ 24 }
-{
-    let above = window >> (shift + depth);
-    let below = window % (1 << shift);
-    (((above << depth) + value) << shift) + below
 }
