@@ -118,36 +118,18 @@ splice_shifts w s n x hw hs hx =
 
 -- what a window-set leaves: three octets, where they are there
 kept_octet : (m : List ℕ) (i n j : ℕ) → j ≢ i → j ≢ i + 1 → j ≢ i + 2 → get_or (window_set m i n) j 0 ≡ get_or m j 0
-kept_octet m i n j x y z =
-    get_or-set_other (set (set m i (n / 65536)) (i + 1) (n / 256 % 256)) (i + 2) j (n % 256) 0 z
-    ∙ get_or-set_other (set m i (n / 65536)) (i + 1) j (n / 256 % 256) 0 y
-    ∙ get_or-set_other m i j (n / 65536) 0 x
+kept_octet m i n j x y z = grind (arith, get_or-set_other)
 
 same_length : (m : List ℕ) (i n : ℕ) → length (window_set m i n) ≡ length m
-same_length m i n =
-    length-set (set (set m i (n / 65536)) (i + 1) (n / 256 % 256)) (i + 2) (n % 256)
-    ∙ length-set (set m i (n / 65536)) (i + 1) (n / 256 % 256)
-    ∙ length-set m i (n / 65536)
+same_length m i n = simp length-set refl
 
 past_octets : (m : List ℕ) (i n j : ℕ) → length m ≤ j → get_or (window_set m i n) j 0 ≡ get_or m j 0
 past_octets m i n j h = get_or_past (window_set m i n) j 0 (omega (arith, same_length m i n)) ∙ sym (get_or_past m j 0 h)
 
 new_octet : (m : List ℕ) (i n j : ℕ) → j < 3 → i + j < length m → get_or (window_set m i n) (i + j) 0 ≡ get_or (n / 65536 ∷ n / 256 % 256 ∷ n % 256 ∷ []) j 0
-new_octet m i n zero h k =
-    let m1 = set m i (n / 65536) in
-    let e : i + 0 ≡ i = omega arith in
-    ap (λ z. get_or (window_set m i n) z 0) e
-    ∙ get_or-set_other (set m1 (i + 1) (n / 256 % 256)) (i + 2) i (n % 256) 0 (λ z. omega arith)
-    ∙ get_or-set_other m1 (i + 1) i (n / 256 % 256) 0 (λ z. omega arith)
-    ∙ get_or-set_same m i (n / 65536) 0 (omega arith)
-new_octet m i n (suc zero) h k =
-    let m1 = set m i (n / 65536) in
-    get_or-set_other (set m1 (i + 1) (n / 256 % 256)) (i + 2) (i + 1) (n % 256) 0 (λ z. omega arith)
-    ∙ get_or-set_same m1 (i + 1) (n / 256 % 256) 0 (omega (arith, length-set m i (n / 65536)))
-new_octet m i n (suc (suc zero)) h k =
-    let m1 = set m i (n / 65536) in
-    let m2 = set m1 (i + 1) (n / 256 % 256) in
-    get_or-set_same m2 (i + 2) (n % 256) 0 (omega (arith, length-set m i (n / 65536), length-set m1 (i + 1) (n / 256 % 256)))
+new_octet m i n zero h k = grind (arith, get_or-set_other, get_or-set_same, length-set)
+new_octet m i n (suc zero) h k = grind (arith, get_or-set_other, get_or-set_same, length-set)
+new_octet m i n (suc (suc zero)) h k = grind (arith, get_or-set_other, get_or-set_same, length-set)
 new_octet m i n (suc (suc (suc j))) h k = omega arith
 
 new_bit : (m : List ℕ) (i n t : ℕ) → n < 2 ^ 24 → t < 24 → i + t / 8 < length m → bit_at (window_set m i n) (8 * i + t) ≡ n / 2 ^ (23 - t) % 2

@@ -37,9 +37,10 @@ impl BitRun {
         Window::of(octets, i).spliced(self, value).write(octets, i);
     }
 
-    // How many bits of the window, that begins with the octet of the run's first bit, stand behind the run.
+    // How many bits stand behind the run in the window that begins with the octet of its first bit.
     fn shift(&self) -> u32
-        ensures { result ≡ 24 - self.now.first % 8 - self.now.depth }
+        ensures value { result ≡ 24 - self.now.first % 8 - self.now.depth }
+        ensures room { result + self.now.depth ≤ 24 }
     {
         24 - (self.first % 8) as u32 - self.depth as u32
     }
