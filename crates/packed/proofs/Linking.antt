@@ -13,7 +13,7 @@ use Rattle.packed.specs.declared.grid.Grid.{Grid}
 use Rattle.packed.specs.BitRuns.{bit_at, run_at}
 use Rattle.packed.specs.Packs.{Covered, packed_picture, bit_of, bit_beside}
 use Rattle.packed.proofs.Samples.{group_sample}
-use Rattle.packed.specs.Grids.{width_at, height_at, inner_width, inner_height, first_bit, grid_picture, bit_plane, bit_row, bit_column, grid_beside, Copies, Within, Owned, NoneBehind, Sound}
+use Rattle.packed.specs.Grids.{width_at, height_at, first_bit, grid_picture, bit_plane, bit_row, bit_column, grid_beside, Copies, Within, Owned, NoneBehind, Sound}
 
 -- a run of d bits after another
 next_run : (w t d : ℕ) → w < t → w * d + d ≤ t * d

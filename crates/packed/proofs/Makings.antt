@@ -12,6 +12,7 @@ use Rattle.theory.specs.Octets.{AllOctets}
 use Rattle.theory.specs.Pictures.{no_picture}
 use Rattle.formats.specs.Frames.{frame_of, packed_octets}
 use Rattle.packed.specs.declared.grid.Grid.{Grid}
+use Rattle.packed.specs.declared.grid.Place.{Place}
 use Rattle.packed.specs.BitRuns.{bit_at, run_at}
 use Rattle.packed.specs.Packs.{Covered, accepted, packed_frame, packed_picture, frame_beside, bit_of, bit_beside}
 use Rattle.packed.specs.Grids.{width_at, height_at, first_bit, bit_plane, bit_row, bit_column, empty_grid, grid_picture, grid_beside, Copies, Sound}
@@ -71,20 +72,21 @@ module _ (f : Format) (room : ℕ) where
       }
 
 -- a grid of the empty one's numbers is the empty one
-pub same_empty : (covered : Covered 0 0 0) (deep : 1 ≤ 1) (narrow : 1 ≤ 16) (few : 0 ≤ 24) → ◌≡◌ {A = Grid} (record {
-  plane_count = 0;
-  depth = 1;
-  planes = replicate 3 (record { width = 0; height = 0; group_width = 0; group_height = 0; covered = covered });
-  row_groups = 0;
-  octets = 0;
-  positions = 0;
-  places = replicate 24 (record { plane = 0; row = 0; column = 0 });
-  size = 0;
-  deep = deep;
-  narrow = narrow;
-  few = few;
-}) empty_grid
-same_empty covered deep narrow few =
+pub same_empty : (covered : Covered 0 0 0) (deep : 1 ≤ 1) (narrow : 1 ≤ 16) (few : 0 ≤ 24) (x : Place) → x.plane ≡ 0 → x.row ≡ 0 → x.column ≡ 0
+    → ◌≡◌ {A = Grid} (record {
+      plane_count = 0;
+      depth = 1;
+      planes = replicate 3 (record { width = 0; height = 0; group_width = 0; group_height = 0; covered = covered });
+      row_groups = 0;
+      octets = 0;
+      positions = 0;
+      places = replicate 24 x;
+      size = 0;
+      deep = deep;
+      narrow = narrow;
+      few = few;
+    }) empty_grid
+same_empty covered deep narrow few x plane row column =
     let never : covered ≡ (λ h. absurd (not-suc-le-zero h)) = fun_ext (λ h. absurd (not-suc-le-zero h)) in
     λ i. record {
       plane_count = 0;
@@ -93,7 +95,7 @@ same_empty covered deep narrow few =
       row_groups = 0;
       octets = 0;
       positions = 0;
-      places = replicate 24 (record { plane = 0; row = 0; column = 0 });
+      places = replicate 24 (record { plane = plane i; row = row i; column = column i });
       size = 0;
       deep = le_prop deep (lit≤ tt) i;
       narrow = le_prop narrow (lit≤ tt) i;

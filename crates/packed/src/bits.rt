@@ -61,7 +61,12 @@ impl Window {
         ensures octets { (slice_index octets.now i < 256) × (slice_index octets.now (i + 1) < 256) × (slice_index octets.now (i + 2) < 256) }
     {
         Window {
-            number: u32::from_be_bytes([0, octet(octets, i), octet(octets, i + 1), octet(octets, i + 2)]),
+            number: u32::from_be_bytes([
+                0,
+                octet(octets, i),
+                octet(octets, i + 1),
+                octet(octets, i + 2),
+            ]),
         }
     }
 

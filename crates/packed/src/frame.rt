@@ -33,8 +33,13 @@ impl PlaneSizes {
         ensures { SizesOf result (frame_of (format_of K.GroupKind.kind format.now)) plane }
     {
         let frame = format.frame();
-        let columns = format.group_columns().checked_div(format.kind.column_step(format.depth, plane));
-        let rows = format.kind.group_rows().checked_div(format.kind.row_step(format.depth, plane));
+        let columns = format
+            .group_columns()
+            .checked_div(format.kind.column_step(format.depth, plane));
+        let rows = format
+            .kind
+            .group_rows()
+            .checked_div(format.kind.row_step(format.depth, plane));
         PlaneSizes {
             width: frame.plane_width(plane) as u16,
             height: frame.plane_height(plane) as u16,
@@ -100,11 +105,6 @@ impl Grid {
             group_width: 0,
             group_height: 0,
         };
-        let no_place = Place {
-            plane: 0,
-            row: 0,
-            column: 0,
-        };
         Grid {
             plane_count: 0,
             depth: 1,
@@ -112,7 +112,7 @@ impl Grid {
             row_groups: 0,
             octets: 0,
             positions: 0,
-            places: [no_place; 24],
+            places: [Place::default(); 24],
             size: 0,
         }
     }

@@ -16,7 +16,7 @@ pub(crate) struct PlaneSizes {
 }
 
 /// A place inside a group.
-#[derive(Clone, Copy, PartialEq, Eq)]
+#[derive(Clone, Copy, Default, PartialEq, Eq)]
 pub(crate) struct Place {
     pub(crate) plane: u8,
     pub(crate) row: u8,
@@ -51,7 +51,9 @@ impl Grid {
         ensures value { result ≡ width_at self.now plane }
         ensures bound { result ≤ 65535 }
     {
-        self.planes.get(plane).map_or(0, |sizes| sizes.width as usize)
+        self.planes
+            .get(plane)
+            .map_or(0, |sizes| sizes.width as usize)
     }
 
     /// Rows of a plane; 0 of any other.
@@ -59,7 +61,9 @@ impl Grid {
         ensures value { result ≡ height_at self.now plane }
         ensures bound { result ≤ 65535 }
     {
-        self.planes.get(plane).map_or(0, |sizes| sizes.height as usize)
+        self.planes
+            .get(plane)
+            .map_or(0, |sizes| sizes.height as usize)
     }
 
     // The position of a place inside the group.
@@ -68,7 +72,10 @@ impl Grid {
         ensures bound { result ≤ 24 }
     {
         let positions = self.positions as usize;
-        self.places[..positions].iter().position(|p| *p == place).unwrap_or(positions)
+        self.places[..positions]
+            .iter()
+            .position(|p| *p == place)
+            .unwrap_or(positions)
     }
 
     /// The bits of a place; `None` where there is no such place.

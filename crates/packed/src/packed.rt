@@ -75,7 +75,10 @@ impl<'a> Store for Packed<'a> {
     }
 
     fn show(&self, plane: usize, row: usize, column: usize) -> Result<u16, Refusal> {
-        let run = self.grid.run(plane, row, column).ok_or(Refusal::NoSuchPlace)?;
+        let run = self
+            .grid
+            .run(plane, row, column)
+            .ok_or(Refusal::NoSuchPlace)?;
         Ok(run.read(self.octets))
     }
 
@@ -87,7 +90,10 @@ impl<'a> Store for Packed<'a> {
         ensures bits { (k : ℕ) → bit_at self.new.octets.now k ≡ bit_left self.old.grid self.old.octets.now plane row column value k }
         ensures memory { self.new.octets.ghost_name ≡ self.old.octets.ghost_name }
     {
-        let run = self.grid.run(plane, row, column).ok_or(Refusal::NoSuchPlace)?;
+        let run = self
+            .grid
+            .run(plane, row, column)
+            .ok_or(Refusal::NoSuchPlace)?;
         if run.overflows(value) {
             return Err(Refusal::ValueTooLarge);
         }

@@ -1,4 +1,4 @@
-use Rattle.std.proofs.Common.{◌≡◌, ℕ, ◌/◌, ◌<◌, ◌≤◌, ltb, get_or, sym, refl, ap, ◌∙◌, subst, rules, arith}
+use Rattle.std.proofs.Common.{◌/◌, ◌≤◌, ltb, sym, refl, ap, ◌∙◌, subst, rules, arith}
 use native.Mathlib.Nat.{div-zero}
 use Rattle.std.proofs.lemmas.Bool.{cond-false, le-ltb}
 use Rattle.formats.specs.Frames.{frame_of}
@@ -6,8 +6,6 @@ use Rattle.formats.specs.Meaning.{format_of}
 use Rattle.theory.specs.Formats.{layout_of, plane_width, plane_height}
 use Rattle.theory.specs.Layouts.{group_width, group_height}
 use Rattle.theory.proofs.Positions.{few_octets}
-use Rattle.packed.specs.declared.grid.Place.{Place}
-use Rattle.packed.specs.declared.grid.PlaneSizes.{PlaneSizes}
 use Rattle.packed.specs.Grids.{SizesOf, PlaceOf}
 use Rattle.packed.proofs.Makings.{lawful_at}
 use Rattle.packed.proofs.Tables.{table_tells, each_made}

@@ -1,4 +1,4 @@
-use Rattle.std.proofs.Common.{◌≡◌, ℕ, ◌<◌, ◌&&◌, eqb, Bool, length, get_or, take, sym, ap, ◌∙◌, ap₂, arith, rules, tests, get_or-take, length-take-le}
+use Rattle.std.proofs.Common.{◌≡◌, ℕ, ◌<◌, ◌&&◌, eqb, length, get_or, take, sym, ap, ◌∙◌, ap₂, arith, rules, tests, get_or-take, length-take-le}
 use Rattle.std.specs.List.{position_from}
 use Rattle.std.specs.Option.{unwrap_or, option_map_or}
 use Rattle.std.proofs.lemmas.Iterator.{YieldsList-from_slice}
