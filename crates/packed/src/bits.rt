@@ -60,14 +60,9 @@ impl Window {
         ensures is { result.number ≡ window_at octets.now i }
         ensures octets { (slice_index octets.now i < 256) × (slice_index octets.now (i + 1) < 256) × (slice_index octets.now (i + 2) < 256) }
     {
-        Window {
-            number: u32::from_be_bytes([
-                0,
-                octet(octets, i),
-                octet(octets, i + 1),
-                octet(octets, i + 2),
-            ]),
-        }
+        let octet = |k: usize| octets.get(i + k).copied().unwrap_or(0);
+        let number = u32::from_be_bytes([0, octet(0), octet(1), octet(2)]);
+        Window { number }
     }
 
     // The window once the bits of a run in it stand for a value.
@@ -93,13 +88,6 @@ impl Window {
         set_octet(octets, i + 1, middle);
         set_octet(octets, i + 2, low);
     }
-}
-
-// The octet at an index, 0 past the end.
-fn octet(octets: &[u8], i: usize) -> u8
-    ensures { result ≡ slice_index octets.now i }
-{
-    octets.get(i).copied().unwrap_or(0)
 }
 
 // Sets the octet at an index, and none past the end. Not by `get_mut`: that proof did not close, since none knows what a slice holds that lent an element.

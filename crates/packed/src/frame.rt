@@ -33,13 +33,12 @@ impl PlaneSizes {
         ensures { SizesOf result (frame_of (format_of K.GroupKind.kind format.now)) plane }
     {
         let frame = format.frame();
-        let columns = format
-            .group_columns()
-            .checked_div(format.kind.column_step(format.depth, plane));
-        let rows = format
-            .kind
-            .group_rows()
-            .checked_div(format.kind.row_step(format.depth, plane));
+        let kind = &format.kind;
+        let depth = format.depth;
+        let columns = kind
+            .columns(depth)
+            .checked_div(kind.column_step(depth, plane));
+        let rows = kind.group_rows().checked_div(kind.row_step(depth, plane));
         PlaneSizes {
             width: frame.plane_width(plane) as u16,
             height: frame.plane_height(plane) as u16,
