@@ -1,8 +1,10 @@
 -- The grid of a store: that of the frame where the check passes, the empty one where it refuses.
-use Rattle.std.proofs.Common.{◌≡◌, ℕ, zero, suc, ◌+◌, ◌<◌, ◌≤◌, Bool, true, false, cond, not, ◌&&◌, ltb, List, [], ◌∷◌, length, is_ok, Some, None, Ok, Err, Option, Result, sym, refl, ap, ◌∙◌, ap₂, zero-le, not-suc-le-zero, arith, lit≤, replicate}
+use Rattle.std.proofs.Common.{◌≡◌, ℕ, zero, suc, ◌+◌, ◌<◌, ◌≤◌, Bool, true, false, cond, not, ◌&&◌, ltb, List, [], ◌∷◌, length, is_ok, Some, None, Ok, Err, Option, Result, sym, refl, ap, ◌∙◌, ap₂, zero-le, not-suc-le-zero, arith, rules, lit≤, replicate}
 use mathlib.Core.Path.{fun_ext}
 use native.Mathlib.Bridge.{le_prop}
 use Rattle.std.proofs.lemmas.Bool.{and_parts, ltb-true, ltb-false, cond-true, cond-false, and_left, le-ltb, not_from_false, both_ways, false≢true}
+use Rattle.std.specs.Prelude.{slice_get}
+use Rattle.std.specs.Option.{option_map_or}
 use Rattle.refusals.specs.declared.Refusal.{Refusal}
 use Rattle.refusals.specs.Numbers.{numbered}
 use Rattle.theory.specs.Answers.{first_row, is_none, verdict}
@@ -13,9 +15,10 @@ use Rattle.theory.specs.Pictures.{no_picture}
 use Rattle.formats.specs.Frames.{frame_of, packed_octets}
 use Rattle.packed.specs.declared.grid.Grid.{Grid}
 use Rattle.packed.specs.declared.grid.Place.{Place}
+use Rattle.packed.specs.declared.grid.PlaneSizes.{PlaneSizes}
 use Rattle.packed.specs.BitRuns.{bit_at, run_at}
 use Rattle.packed.specs.Packs.{Covered, accepted, packed_frame, packed_picture, frame_beside, bit_of, bit_beside}
-use Rattle.packed.specs.Grids.{width_at, height_at, first_bit, bit_plane, bit_row, bit_column, empty_grid, grid_picture, grid_beside, Copies, Sound}
+use Rattle.packed.specs.Grids.{width_at, height_at, first_bit, bit_plane, bit_row, bit_column, no_sizes, empty_grid, grid_picture, grid_beside, Copies, Sound}
 use Rattle.packed.proofs.Linking.{same_bit, same_picture, same_beside, copies_sound}
 
 -- an answer is good where nothing refuses
@@ -33,12 +36,7 @@ found false b e = absurd (false≢true e)
 
 -- a lawful format's depth is one of its kind's
 pub has_octets : (f : Format) → lawful_format f ≡ true → 0 < (layout_of f).octets
-has_octets f e =
-    let a = and_parts _ _ e in
-    let b = and_parts _ _ a.0 in
-    let c = and_parts _ _ b.0 in
-    let d = and_parts _ _ c.0 in
-    ltb-true 0 (layout_of f).octets (and_parts _ _ d.0).0
+has_octets f e = search rules
 
 pub lawful_at : (f : Format) → LawfulKind f.kind → lawful_format f ≡ true → LawfulLayout f.kind f.depth
 lawful_at f law e = law.at_depth f.depth (has_octets f e)
@@ -103,17 +101,17 @@ same_empty covered deep narrow few x plane row column =
     }
 
 -- the empty grid has no rows and no columns, so no place
+no_size : (told : PlaneSizes → ℕ) → told no_sizes ≡ 0 → (p : ℕ) → option_map_or told (slice_get empty_grid.planes p) 0 ≡ 0
+no_size told e zero = e
+no_size told e (suc zero) = e
+no_size told e (suc (suc zero)) = e
+no_size told e (suc (suc (suc p))) = refl
+
 no_rows : (p : ℕ) → height_at empty_grid p ≡ 0
-no_rows zero = refl
-no_rows (suc zero) = refl
-no_rows (suc (suc zero)) = refl
-no_rows (suc (suc (suc p))) = refl
+no_rows = no_size (λ x. x.height) refl
 
 no_columns : (p : ℕ) → width_at empty_grid p ≡ 0
-no_columns zero = refl
-no_columns (suc zero) = refl
-no_columns (suc (suc zero)) = refl
-no_columns (suc (suc (suc p))) = refl
+no_columns = no_size (λ x. x.width) refl
 
 nowhere : (p r c : ℕ) → (ltb r (height_at empty_grid p) && ltb c (width_at empty_grid p)) ≡ false
 nowhere p r c = and_left (ltb r (height_at empty_grid p)) (ltb c (width_at empty_grid p)) (le-ltb r (height_at empty_grid p) (omega (arith, no_rows p)))

@@ -85,12 +85,15 @@ Unchanged = ℕ × Grid × (ℕ → ℕ)
 abbrev pub unchanged : ℕ → Grid → List ℕ → Unchanged
 unchanged memory g m = (memory, g, grid_beside g m)
 
--- the grid of a store that could not be made
+-- a plane of no size, and the grid of a store that could not be made
+abbrev pub no_sizes : PlaneSizes
+no_sizes = record { width = 0; height = 0; group_width = 0; group_height = 0; covered = λ h. absurd (not-suc-le-zero h) }
+
 abbrev pub empty_grid : Grid
 empty_grid = record {
   plane_count = 0;
   depth = 1;
-  planes = replicate 3 (record { width = 0; height = 0; group_width = 0; group_height = 0; covered = λ h. absurd (not-suc-le-zero h) });
+  planes = replicate 3 no_sizes;
   row_groups = 0;
   octets = 0;
   positions = 0;
