@@ -3,6 +3,7 @@ use Rattle.std.proofs.Common.{◌≡◌, ℕ, ◌+◌, ◌-◌, ◌*◌, ◌/◌
 use mathlib.Core.Path.{fun_ext}
 use Rattle.std.proofs.lemmas.Nat.{mul-le, div-mul-add, mod-mul-add}
 use Rattle.std.proofs.lemmas.Bool.{cases_lt, cases_Bool, cond-false, le-ltb, ltb-true, and_from, and_parts, eq-eqb}
+use Rattle.std.proofs.lemmas.Bool.Decides.{nat_tests}
 use Rattle.theory.specs.Octets.{AllOctets, first_from}
 use Rattle.theory.specs.Layouts.{LawfulLayout, group_width, group_height}
 use Rattle.theory.specs.Formats.{Part, layout_of, groups, plane_width, plane_height}
@@ -40,10 +41,7 @@ telling f = record { planes = 0; width = λ _. 0; height = λ _. 0; depth = 0; s
 
 module _ (t : Part) (w : LawfulLayout t.format.kind t.format.depth) where
   plane_inside : (p r : ℕ) → r < plane_height t p → p < t.format.kind.planes
-  plane_inside p r h = elim (cases_lt p t.format.kind.planes) [
-    | inl k ↦ k
-    | inr k ↦ absurd (not-suc-le-zero (subst (λ x. r < x) (cond-false (ltb p t.format.kind.planes) _ 0 (le-ltb p t.format.kind.planes k)) h))
-  ]
+  plane_inside p r h = grind (arith, nat_tests)
 
   pub part_covered : (p : ℕ) → Covered (plane_height t p) (group_height t.format.kind (layout_of t.format) p) (group_width (layout_of t.format) p)
   part_covered p h = let hp = plane_inside p 0 h in mul-pos (group_height_pos t w p hp) (group_width_pos t w p hp)

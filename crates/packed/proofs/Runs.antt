@@ -10,7 +10,7 @@ use Rattle.theory.specs.Pictures.{inside, put, put_refusal, put_after, with_samp
 use Rattle.packed.specs.declared.grid.Grid.{Grid}
 use Rattle.packed.specs.BitRuns.{bit_at, run_at, bit_after}
 use Rattle.packed.proofs.Samples.{same_run}
-use Rattle.packed.specs.Grids.{width_at, height_at, first_bit, grid_picture, bit_plane, bit_row, bit_column, is_for, grid_beside, Owned}
+use Rattle.packed.specs.Grids.{width_at, height_at, first_bit, grid_picture, bit_plane, bit_row, bit_column, is_for, grid_beside, bit_left, Owned}
 
 -- a run that was put, read from its first bits on
 put_front : (m l : List ℕ) (b n x j : ℕ) → x < 2 ^ n → ((k : ℕ) → bit_at l k ≡ bit_after m b n x k) → j ≤ n → run_at l b j ≡ x / 2 ^ (n - j)
@@ -32,12 +32,6 @@ put_whole : (m l : List ℕ) (b n x : ℕ) → x < 2 ^ n → ((k : ℕ) → bit_
 put_whole m l b n x hx h =
     let e : n - n ≡ 0 = omega arith in
     put_front m l b n x n hx h (omega arith) ∙ ap (λ z. x / 2 ^ z) e ∙ div-one x
-
--- a put at a place inside of a value that is small enough
-not_refused : (a b : Bool) → a ≡ true → b ≡ false → first_row ((not a, 1) ∷ (b, 2) ∷ []) ≡ None
-not_refused true false e f = refl
-not_refused true true e f = absurd (true≢false f)
-not_refused false b e f = absurd (false≢true e)
 
 -- one place, told by two tests, and what holds of it
 same_place : (a b c p r d q s e : ℕ) → (eqb a p && eqb b r && eqb c d) ≡ true → (eqb a q && eqb b s && eqb c e) ≡ true
@@ -126,14 +120,16 @@ module _ (g : Grid) (owned : Owned g) (m l : List ℕ) (p r c x : ℕ) (hr : r <
 pub put_done : (g : Grid) (m l : List ℕ) (p r c x b n : ℕ) → Owned g → inside (grid_picture g m) p r c ≡ true → leb (2 ^ n) x ≡ false
     → (b ≡ first_bit g p r c) × (n ≡ g.depth) → ((k : ℕ) → bit_at l k ≡ bit_after m b n x k)
     → (grid_picture g l ≡ put_after (grid_picture g m) p r c x) × (grid_beside g l ≡ grid_beside g m)
+    × ((k : ℕ) → bit_at l k ≡ bit_left g m p r c x k)
 put_done g m l p r c x b n owned within fits is bits =
     let v = grid_picture g m in
     let small : leb (2 ^ g.depth) x ≡ false = ap (λ d. leb (2 ^ d) x) (sym is.1) ∙ fits in
     let parts = and_parts (ltb r (height_at g p)) (ltb c (width_at g p)) within in
     let hr = ltb-true r (height_at g p) parts.0 in
     let hc = ltb-true c (width_at g p) parts.1 in
-    let taken : put_refusal v p r c x ≡ None = not_refused (inside v p r c) (leb (2 ^ g.depth) x) within small in
+    let taken : put_refusal v p r c x ≡ None = λ i. first_row ((not (within i), 1) ∷ (small i, 2) ∷ []) in
     let here : (k : ℕ) → bit_at l k ≡ bit_after m (first_bit g p r c) g.depth x k = λ k. bits k ∙ ap₂ (λ a d. bit_after m a d x k) is.0 is.1 in (
       put_picture g owned m l p r c x hr hc here (leb-false (2 ^ g.depth) x small) ∙ sym (ap (λ o. cond (is_none o) (put v p r c x) v) taken),
       put_beside g owned m l p r c x hr hc here,
+      λ k. here k ∙ sym (ap (λ o. cond (is_none o) (bit_after m (first_bit g p r c) g.depth x k) (bit_at m k)) taken),
     )

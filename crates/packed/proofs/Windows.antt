@@ -4,6 +4,7 @@ use lib.Pow.{mod-mod-pow}
 use Rattle.std.proofs.lemmas.List.{get_or_past}
 use Rattle.std.proofs.lemmas.Nat.{shr-shr, field_of, pow_pos, pow-add, mod_below, mod_low, shr_high, shr_below, mul-add-lt, mul-le, one_shl}
 use Rattle.std.proofs.lemmas.Bool.{cases_lt, cond-true, cond-false, and_left, and_right, and_from, lt-leb, le-leb, lt-ltb, le-ltb}
+use Rattle.std.proofs.lemmas.Bool.Decides.{nat_tests}
 use Rattle.std.specs.Int.Digits.{number_from_digits, AllBelowBase}
 use Rattle.packed.proofs.Samples.{same_run, octets_bit, octets_run}
 use Rattle.packed.specs.BitRuns.{bit_at, run_at, bit_after, window_at, window_set, spliced}
@@ -144,13 +145,13 @@ new_bit m i n t hn ht hl =
 
 -- a bit outside the run
 out_before : (m : List ℕ) (b n x k : ℕ) → k < b → bit_at m k ≡ bit_after m b n x k
-out_before m b n x k h = sym (cond-false (leb b k && ltb k (b + n)) (x / 2 ^ (b + n - 1 - k) % 2) (bit_at m k) (and_left (leb b k) (ltb k (b + n)) (lt-leb b k h)))
+out_before m b n x k h = grind (arith, nat_tests)
 
 out_after : (m : List ℕ) (b n x k : ℕ) → b + n ≤ k → bit_at m k ≡ bit_after m b n x k
-out_after m b n x k h = sym (cond-false (leb b k && ltb k (b + n)) (x / 2 ^ (b + n - 1 - k) % 2) (bit_at m k) (and_right (leb b k) (ltb k (b + n)) (le-ltb k (b + n) h)))
+out_after m b n x k h = grind (arith, nat_tests)
 
 in_run : (m : List ℕ) (b n x k : ℕ) → b ≤ k → k < b + n → x / 2 ^ (b + n - 1 - k) % 2 ≡ bit_after m b n x k
-in_run m b n x k h l = sym (cond-true (leb b k && ltb k (b + n)) (x / 2 ^ (b + n - 1 - k) % 2) (bit_at m k) (and_from (leb b k) (ltb k (b + n)) (le-leb b k h) (lt-ltb k (b + n) l)))
+in_run m b n x k h l = grind (arith, nat_tests)
 
 -- a splice of the window, set, changes the run and no other bit
 pub put_run : (m : List ℕ) (b n x : ℕ) → Octets m (b / 8) → window_at m (b / 8) < 2 ^ 24 → n ≤ 16 → x < 2 ^ n → b + n ≤ 8 * length m
