@@ -1,8 +1,8 @@
 -- A grid that copies a part: it has the part's packed picture, and it is sound where the part's kind has the laws.
-use Rattle.std.proofs.Common.{◌≡◌, ℕ, ◌+◌, ◌-◌, ◌*◌, ◌/◌, ◌%◌, ◌<◌, ◌≤◌, false, cond, not, ◌&&◌, eqb, ltb, List, length, sym, ap, ◌∙◌, subst, ap₂, inl, inr, not-suc-le-zero, mul_assoc, add-mul, mul-pos, one-mul, arith}
+use Rattle.std.proofs.Common.{◌≡◌, ℕ, ◌+◌, ◌-◌, ◌*◌, ◌/◌, ◌%◌, ◌<◌, ◌≤◌, false, cond, not, ◌&&◌, eqb, ltb, List, length, sym, ap, ◌∙◌, subst, ap₂, inl, inr, mul_assoc, add-mul, mul-pos, one-mul, arith}
 use mathlib.Core.Path.{fun_ext}
 use Rattle.std.proofs.lemmas.Nat.{mul-le, div-mul-add, mod-mul-add}
-use Rattle.std.proofs.lemmas.Bool.{cases_lt, cases_Bool, cond-false, le-ltb, ltb-true, and_from, and_parts, eq-eqb}
+use Rattle.std.proofs.lemmas.Bool.{cases_Bool, cond-false, le-ltb, ltb-true, and_from, and_parts, eq-eqb}
 use Rattle.std.proofs.lemmas.Bool.Decides.{nat_tests}
 use Rattle.theory.specs.Octets.{AllOctets, first_from}
 use Rattle.theory.specs.Layouts.{LawfulLayout, group_width, group_height}

@@ -2,7 +2,7 @@
 use Rattle.std.proofs.Common.{◌≡◌, ℕ, zero, suc, ◌+◌, ◌<◌, ◌≤◌, Bool, true, false, cond, not, ◌&&◌, ltb, List, [], ◌∷◌, length, is_ok, Some, None, Ok, Err, Option, Result, sym, refl, ap, ◌∙◌, ap₂, zero-le, not-suc-le-zero, arith, rules, lit≤, replicate}
 use mathlib.Core.Path.{fun_ext}
 use native.Mathlib.Bridge.{le_prop}
-use Rattle.std.proofs.lemmas.Bool.{and_parts, ltb-true, ltb-false, cond-true, cond-false, and_left, le-ltb, not_from_false, both_ways, false≢true}
+use Rattle.std.proofs.lemmas.Bool.{ltb-false, cond-true, cond-false, and_left, le-ltb, not_from_false, both_ways, false≢true}
 use Rattle.std.specs.Prelude.{slice_get}
 use Rattle.std.specs.Option.{option_map_or}
 use Rattle.refusals.specs.declared.Refusal.{Refusal}

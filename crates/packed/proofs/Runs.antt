@@ -1,9 +1,9 @@
 -- One sample put: read again it is the value, every other sample is as it was, and so is every bit that is no sample's.
-use Rattle.std.proofs.Common.{◌≡◌, ℕ, zero, suc, ◌+◌, ◌-◌, ◌/◌, ◌%◌, ◌^◌, ◌<◌, ◌≤◌, Bool, true, false, cond, not, ◌&&◌, eqb, ltb, leb, List, [], ◌∷◌, None, sym, refl, ap, ◌∙◌, ap₂, inl, inr, div-one, arith}
+use Rattle.std.proofs.Common.{◌≡◌, ℕ, zero, suc, ◌+◌, ◌-◌, ◌/◌, ◌%◌, ◌^◌, ◌<◌, ◌≤◌, true, false, cond, not, ◌&&◌, eqb, ltb, leb, List, [], ◌∷◌, None, sym, ap, ◌∙◌, ap₂, inl, inr, div-one, arith}
 use mathlib.Core.Path.{fun_ext}
 use native.Mathlib.Nat.{div-eq_of_lt}
 use Rattle.std.proofs.lemmas.Nat.{shr-shr}
-use Rattle.std.proofs.lemmas.Bool.{cases_Bool, cond-true, cond-false, and_parts, and_from, both_ways, ltb-true, leb-true, leb-false, eqb-true, lt-ltb, le-leb, not_from_true, true≢false, false≢true}
+use Rattle.std.proofs.lemmas.Bool.{cases_Bool, cond-true, cond-false, and_parts, and_from, both_ways, ltb-true, leb-true, leb-false, eqb-true, lt-ltb, le-leb, not_from_true}
 use Rattle.std.proofs.lemmas.Bool.Decides.{nat_tests}
 use Rattle.theory.specs.Answers.{first_row, is_none}
 use Rattle.theory.specs.Pictures.{inside, put, put_refusal, put_after, with_samples}

@@ -30,8 +30,9 @@ module _ {F A : Type 0} (calls : Mut F (ℕ × Unit {0}) A) (f : F) (P : ℕ →
       let rest = subst (λ g. IsFromFnResultFrom calls g xs (i + 1) m) first.0 made.4 in
       subst (λ j. P j (get_or xs j e)) next (made_from xs (i + 1) m (omega arith) rest k e (omega arith))
 
-  -- each entry of the table that they make has P
-  pub each_made : {xs : List A} → IsFromFnResult calls f xs n → (i : ℕ) (e : A) → i < n → P i (get_or xs i e)
-  each_made {xs} made i e h =
-      let here : 0 + i ≡ i = omega arith in
-      subst (λ j. P j (get_or xs j e)) here (made_from xs 0 n (omega arith) made.each i e h)
+-- each entry of the table that they make has P
+pub each_made : {F A : Type 0} {calls : Mut F (ℕ × Unit {0}) A} {f : F} {xs : List A} {n : ℕ} (P : ℕ → A → Type 0) → IsFromFnResult calls f xs n
+    → ((i : ℕ) (x : A) (q : F) → i < n → Called calls f (i, tt) x q → (q ≡ f) × P i x) → (i : ℕ) (e : A) → i < n → P i (get_or xs i e)
+each_made {calls = calls} {f} {xs} {n} P made gives i e h =
+    let here : 0 + i ≡ i = omega arith in
+    subst (λ j. P j (get_or xs j e)) here (made_from calls f P n gives xs 0 n (omega arith) made.each i e h)

@@ -180,11 +180,11 @@ below_when : (b : Bool) (x n : ℕ) → 0 < n → x < n → cond b x 0 < n
 below_when true x n z h = h
 below_when false x n z h = z
 
-pub grid_lawful : (g : Grid) (m : List ℕ) {room : ℕ} → Sound g room → LawfulPicture (grid_picture g m)
-grid_lawful g m sound = record {
+pub grid_lawful : (g : Grid) (m : List ℕ) → NoneBehind g → LawfulPicture (grid_picture g m)
+grid_lawful g m none = record {
   depth_range = (g.deep, g.narrow);
-  no_width = λ p h. omega (arith, sound.none p h);
-  no_height = λ p h. omega (arith, sound.none p h);
+  no_width = λ p h. omega (arith, none p h);
+  no_height = λ p h. omega (arith, none p h);
   below = λ p r c. below_when (nat_lt r (height_at g p) && nat_lt c (width_at g p)) (run_at m (first_bit g p r c) g.depth) (2 ^ g.depth)
       (pow_pos g.depth) (run_below m (first_bit g p r c) g.depth);
   outside = λ p r c. cond-false (nat_lt r (height_at g p) && nat_lt c (width_at g p)) (run_at m (first_bit g p r c) g.depth) 0;

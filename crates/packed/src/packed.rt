@@ -52,7 +52,7 @@ impl<'a> Packed<'a> {
 impl<'a> Store for Packed<'a> {
     ghost picture = { λ s. grid_picture s.grid s.octets.now };
 
-    ghost lawful = { λ s. grid_lawful s.grid s.octets.now s.sound };
+    ghost lawful = { λ s. grid_lawful s.grid s.octets.now s.sound.none };
 
     ghost Rest = { Unchanged };
 

@@ -47,8 +47,8 @@ returns g c =
     let many = w.positions_range.1 in
     let no_plane = (laws.elsewhere f.depth).no_plane in
     let no_position = (laws.elsewhere f.depth).no_position in
-    let sizes = each_made _ _ (λ p x. SizesOf x t p) 3 (λ p x q h called. (search rules, search rules)) c.from_fn.ensures.items in
-    let places = each_made _ _ (λ k x. PlaceOf x l k) 24 (λ k x q h called. (search rules, search rules)) c.from_fn-2.ensures.items in
+    let sizes = each_made (λ p x. SizesOf x t p) c.from_fn.ensures.items (λ p x q h called. (search rules, search rules)) in
+    let places = each_made (λ k x. PlaceOf x l k) c.from_fn-2.ensures.items (λ k x q h called. (search rules, search rules)) in
     let three = c.from_fn.ensures.items.long in
     let all = c.from_fn-2.ensures.items.long in
     record {
