@@ -10,15 +10,14 @@ use Rattle.refusals.specs.Numbers.{numbered}
 use Rattle.theory.specs.Answers.{first_row, is_none, verdict}
 use Rattle.theory.specs.Formats.{Format, layout_of, lawful_format}
 use Rattle.theory.specs.Layouts.{LawfulKind, LawfulLayout}
-use Rattle.theory.specs.Octets.{AllOctets}
 use Rattle.theory.specs.Pictures.{no_picture}
 use Rattle.formats.specs.Frames.{frame_of, packed_octets}
 use Rattle.packed.specs.declared.grid.Grid.{Grid}
 use Rattle.packed.specs.declared.grid.Place.{Place}
 use Rattle.packed.specs.declared.grid.PlaneSizes.{PlaneSizes}
 use Rattle.packed.specs.BitRuns.{bit_at, run_at}
-use Rattle.packed.specs.Packs.{Covered, accepted, packed_frame, packed_picture, frame_beside, bit_of, bit_beside}
-use Rattle.packed.specs.Grids.{width_at, height_at, first_bit, bit_plane, bit_row, bit_column, no_sizes, empty_grid, grid_picture, grid_beside, Copies, Sound}
+use Rattle.packed.specs.Packs.{Covered, accepted, packed_picture, bit_beside}
+use Rattle.packed.specs.Grids.{width_at, height_at, first_bit, bit_plane, bit_row, bit_column, no_sizes, empty_grid, grid_picture, grid_beside, Copies, Sound, Made}
 use Rattle.packed.proofs.Linking.{same_bit, same_picture, same_beside, copies_sound}
 
 -- an answer is good where nothing refuses
@@ -41,26 +40,17 @@ has_octets f e = search rules
 pub lawful_at : (f : Format) → LawfulKind f.kind → lawful_format f ≡ true → LawfulLayout f.kind f.depth
 lawful_at f law e = law.at_depth f.depth (has_octets f e)
 
--- what is promised of the grid of a store of a format over so many octets, whatever they hold
-pub record Made (f : Format) (room : ℕ) (g : Grid) : Type 0 where
-  pub sound : Sound g room
-  pub picture : (m : List ℕ) → length m ≡ room → AllOctets m → grid_picture g m ≡ packed_frame f m
-  pub beside : (m : List ℕ) → length m ≡ room → grid_beside g m ≡ frame_beside f m
-  pub first : accepted f room ≡ true → (p r c : ℕ) → first_bit g p r c ≡ bit_of (frame_of f) p r c
-
 module _ (f : Format) (room : ℕ) where
   -- the check finds the same over every list as long
   alike : (b : Bool) → accepted f room ≡ b → (m : List ℕ) → length m ≡ room → accepted f (length m) ≡ b
   alike b e m l = ap (accepted f) l ∙ e
 
-  pub allowed : accepted f room ≡ true → lawful_format f ≡ true
-  allowed e = (found (lawful_format f) (ltb room (packed_octets f)) e).0
-
   pub made : (g : Grid) → LawfulKind f.kind → accepted f room ≡ true → Copies g (frame_of f) → Made f room g
   made g law e copies =
       let t = frame_of f in
-      let w = lawful_at f law (allowed e) in
-      let long : packed_octets f ≤ room = ltb-false room (packed_octets f) (found (lawful_format f) (ltb room (packed_octets f)) e).1 in
+      let passed = found (lawful_format f) (ltb room (packed_octets f)) e in
+      let w = lawful_at f law passed.0 in
+      let long : packed_octets f ≤ room = ltb-false room (packed_octets f) passed.1 in
       record {
         sound = copies_sound g t copies w room long;
         picture = λ m l octets. same_picture g t copies w m (omega arith) octets

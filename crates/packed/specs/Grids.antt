@@ -1,18 +1,20 @@
 -- What a store keeps of its frame, and the picture that it holds by that.
-use Rattle.std.specs.Prelude.{◌≡◌, ℕ, zero, suc, ◌+◌, ◌-◌, ◌*◌, ◌/◌, ◌%◌, ◌^◌, ◌<◌, ◌≤◌, Bool, true, false, cond, not, ◌&&◌, List, replicate, ◌==◌, nat_lt, slice_get, slice_index}
+use Rattle.std.specs.Prelude.{◌≡◌, ℕ, zero, suc, ◌+◌, ◌-◌, ◌*◌, ◌/◌, ◌%◌, ◌^◌, ◌<◌, ◌≤◌, Bool, true, false, cond, not, ◌&&◌, List, length, replicate, ◌==◌, nat_lt, slice_get, slice_index}
 use Rattle.std.specs.Option.{option_map_or}
 use Rattle.std.proofs.Common.{not-suc-le-zero, pow-suc, arith, lit≤}
 use Rattle.std.proofs.lemmas.Nat.{mod_below, pow_pos}
 use Rattle.std.proofs.lemmas.Bool.{cond-false}
 use Rattle.theory.specs.Answers.{is_none}
-use Rattle.theory.specs.Octets.{first_from}
+use Rattle.theory.specs.Octets.{AllOctets, first_from}
 use Rattle.theory.specs.Layouts.{Layout, group_width, group_height}
-use Rattle.theory.specs.Formats.{Part, layout_of, row_groups, groups, plane_width, plane_height}
+use Rattle.theory.specs.Formats.{Format, Part, layout_of, row_groups, groups, plane_width, plane_height}
 use Rattle.theory.specs.Pictures.{Picture, LawfulPicture, put_refusal}
 use Rattle.packed.specs.declared.grid.Grid.{Grid}
 use Rattle.packed.specs.declared.grid.PlaneSizes.{PlaneSizes}
 use Rattle.packed.specs.declared.grid.Place.{Place}
 use Rattle.packed.specs.BitRuns.{bit_at, run_at, bit_after}
+use Rattle.packed.specs.Packs.{accepted, packed_frame, frame_beside, bit_of}
+use Rattle.formats.specs.Frames.{frame_of}
 
 -- sizes of plane p, and of its part of a group; 0 where there is no such plane
 abbrev pub width_at : Grid → ℕ → ℕ
@@ -164,6 +166,13 @@ pub record Sound (g : Grid) (room : ℕ) : Type 0 where
   pub within : Within g
   pub owned : Owned g
   pub long : g.size ≤ room
+
+-- what is promised of the grid of a store of a format over so many octets, whatever they hold
+pub record Made (f : Format) (room : ℕ) (g : Grid) : Type 0 where
+  pub sound : Sound g room
+  pub picture : (m : List ℕ) → length m ≡ room → AllOctets m → grid_picture g m ≡ packed_frame f m
+  pub beside : (m : List ℕ) → length m ≡ room → grid_beside g m ≡ frame_beside f m
+  pub first : accepted f room ≡ true → (p r c : ℕ) → first_bit g p r c ≡ bit_of (frame_of f) p r c
 
 -- bit k after a put, taken or refused
 abbrev pub bit_left : Grid → List ℕ → ℕ → ℕ → ℕ → ℕ → ℕ → ℕ

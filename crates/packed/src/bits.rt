@@ -90,7 +90,7 @@ impl Window {
     }
 }
 
-// Sets the octet at an index, and none past the end. Not by `get_mut`: that proof did not close, since none knows what a slice holds that lent an element.
+// Sets the octet at an index, and none past the end. `get_mut` was tried: the proof did not close, as it knows no element of a slice that lent one.
 fn set_octet(octets: &mut [u8], i: usize, value: u8)
     ensures { octets.new ≡ slice_set octets.old i value }
 {

@@ -1,13 +1,13 @@
 //! The grid of a format's whole frame: what the format and its kind tell, copied.
 
-ghost use Rattle.std.specs.Prelude.{◌≡◌, ℕ, ◌<◌, true, List, length};
+ghost use Rattle.std.specs.Prelude.{◌≡◌, ◌<◌, true, length};
 ghost use Rattle.refusals.specs.Numbers.{numbered};
 ghost use Rattle.theory.specs.Octets.{AllOctets};
 ghost use Rattle.theory.specs.Formats.{lawful_format};
 ghost use Rattle.formats.specs.Meaning.{format_of};
 ghost use Rattle.formats.specs.Frames.{frame_of};
-ghost use Rattle.packed.specs.Packs.{packed_check, accepted, packed_frame, frame_beside, bit_of};
-ghost use Rattle.packed.specs.Grids.{SizesOf, PlaceOf, Copies, empty_grid, Sound, grid_picture, grid_beside, first_bit};
+ghost use Rattle.packed.specs.Packs.{packed_check};
+ghost use Rattle.packed.specs.Grids.{SizesOf, PlaceOf, Copies, empty_grid, Made};
 
 use crate::grid::{Grid, Place, PlaneSizes};
 use formats::Format;
@@ -65,11 +65,8 @@ impl Place {
 impl Grid {
     /// The grid of a store over these octets: that of the format's frame, and the empty one where the check refuses.
     pub(crate) fn new<K: GroupKind + Copy>(format: &Format<K>, octets: &[u8]) -> Grid
-        ensures sound { Sound result (length octets.now) }
+        ensures made { Made (format_of K.GroupKind.kind format.now) (length octets.now) result }
         ensures octets { AllOctets octets.now }
-        ensures picture { (m : List ℕ) → length m ≡ length octets.now → AllOctets m → grid_picture result m ≡ packed_frame (format_of K.GroupKind.kind format.now) m }
-        ensures beside { (m : List ℕ) → length m ≡ length octets.now → grid_beside result m ≡ frame_beside (format_of K.GroupKind.kind format.now) m }
-        ensures first { accepted (format_of K.GroupKind.kind format.now) (length octets.now) ≡ true → (p s c : ℕ) → first_bit result p s c ≡ bit_of (frame_of (format_of K.GroupKind.kind format.now)) p s c }
     {
         match check(format, octets) {
             Ok(()) => Grid::of(format),
