@@ -1,7 +1,7 @@
-pub mod Copied
 pub mod Linking
 pub mod Makings
 pub mod Runs
 pub mod Samples
 pub mod Scans
+pub mod Tables
 pub mod Windows

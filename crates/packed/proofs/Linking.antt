@@ -1,19 +1,20 @@
 -- A grid that copies a part: it has the part's packed picture, and it is sound where the part's kind has the laws.
-use Rattle.std.proofs.Common.{◌≡◌, ℕ, ◌+◌, ◌-◌, ◌*◌, ◌/◌, ◌%◌, ◌<◌, ◌≤◌, false, cond, not, ◌&&◌, eqb, ltb, List, length, sym, ap, ◌∙◌, subst, ap₂, inl, inr, not-suc-le-zero, mul_assoc, add-mul, mul-pos, one-mul, arith}
+use Rattle.std.proofs.Common.{◌≡◌, ℕ, ◌+◌, ◌-◌, ◌*◌, ◌/◌, ◌%◌, ◌<◌, ◌≤◌, false, cond, not, ◌&&◌, eqb, ltb, List, length, sym, ap, ◌∙◌, subst, ap₂, inl, inr, mul_assoc, add-mul, mul-pos, one-mul, arith}
 use mathlib.Core.Path.{fun_ext}
 use Rattle.std.proofs.lemmas.Nat.{mul-le, div-mul-add, mod-mul-add}
-use Rattle.std.proofs.lemmas.Bool.{cases_lt, cases_Bool, cond-false, le-ltb, ltb-true, and_from, and_parts, eq-eqb}
+use Rattle.std.proofs.lemmas.Bool.{cases_Bool, cond-false, le-ltb, ltb-true, and_from, and_parts, eq-eqb}
+use Rattle.std.proofs.lemmas.Bool.Decides.{nat_tests}
 use Rattle.theory.specs.Octets.{AllOctets, first_from}
-use Rattle.theory.specs.Layouts.{LawfulLayout}
+use Rattle.theory.specs.Layouts.{LawfulLayout, group_width, group_height}
 use Rattle.theory.specs.Formats.{Part, layout_of, groups, plane_width, plane_height}
 use Rattle.theory.specs.Groups.{group_of, position_in_group, place_row, place_column}
 use Rattle.theory.specs.Pictures.{Picture, with_samples}
 use Rattle.theory.proofs.Places.{group_height_pos, group_width_pos, group_inside, sample_of_place}
 use Rattle.packed.specs.declared.grid.Grid.{Grid}
 use Rattle.packed.specs.BitRuns.{bit_at, run_at}
-use Rattle.packed.specs.Packs.{packed_picture, bit_of, bit_beside}
+use Rattle.packed.specs.Packs.{Covered, packed_picture, bit_of, bit_beside}
 use Rattle.packed.proofs.Samples.{group_sample}
-use Rattle.packed.specs.Grids.{width_at, height_at, inner_width, inner_height, first_bit, grid_picture, bit_plane, bit_row, bit_column, grid_beside, Copies, Within, Owned, NoneBehind, Covered, Sound}
+use Rattle.packed.specs.Grids.{width_at, height_at, first_bit, grid_picture, bit_plane, bit_row, bit_column, grid_beside, Copies, Within, Owned, NoneBehind, Sound}
 
 -- a run of d bits after another
 next_run : (w t d : ℕ) → w < t → w * d + d ≤ t * d
@@ -40,10 +41,10 @@ telling f = record { planes = 0; width = λ _. 0; height = λ _. 0; depth = 0; s
 
 module _ (t : Part) (w : LawfulLayout t.format.kind t.format.depth) where
   plane_inside : (p r : ℕ) → r < plane_height t p → p < t.format.kind.planes
-  plane_inside p r h = elim (cases_lt p t.format.kind.planes) [
-    | inl k ↦ k
-    | inr k ↦ absurd (not-suc-le-zero (subst (λ x. r < x) (cond-false (ltb p t.format.kind.planes) _ 0 (le-ltb p t.format.kind.planes k)) h))
-  ]
+  plane_inside p r h = grind (arith, nat_tests)
+
+  pub part_covered : (p : ℕ) → Covered (plane_height t p) (group_height t.format.kind (layout_of t.format) p) (group_width (layout_of t.format) p)
+  part_covered p h = let hp = plane_inside p 0 h in mul-pos (group_height_pos t w p hp) (group_width_pos t w p hp)
 
   part_within : (p r c : ℕ) → r < plane_height t p → c < plane_width t p
       → bit_of t p r c + t.format.depth ≤ 8 * (groups t * (layout_of t.format).octets)
@@ -140,13 +141,6 @@ module _ (g : Grid) (t : Part) (e : Copies g t) where
         let no : ltb p t.format.kind.planes ≡ false = le-ltb p t.format.kind.planes past in
         ap₂ (λ x y. x + y) (e.widths p ∙ cond-false (ltb p t.format.kind.planes) _ 0 no) (e.heights p ∙ cond-false (ltb p t.format.kind.planes) _ 0 no)
 
-    covered : Covered g
-    covered p h =
-        let hp = plane_inside t w p 0 (high p 0 h) in
-        let H : 0 < inner_height g p = subst (λ x. 0 < x) (sym (e.inner_heights p)) (group_height_pos t w p hp) in
-        let W : 0 < inner_width g p = subst (λ x. 0 < x) (sym (e.inner_widths p)) (group_width_pos t w p hp) in
-        mul-pos H W
-
     within : Within g
     within p r c h =
         let fits : first_bit g p r c + g.depth ≤ 8 * (groups t * (layout_of t.format).octets)
@@ -168,11 +162,7 @@ module _ (g : Grid) (t : Part) (e : Copies g t) where
 
     pub copies_sound : (room : ℕ) → groups t * (layout_of t.format).octets ≤ room → Sound g room
     copies_sound room long = record {
-      deep = subst (λ x. 1 ≤ x) (sym e.depth) (omega (arith, w.depth_range.0));
-      narrow = subst (λ x. x ≤ 16) (sym e.depth) w.depth_range.1;
-      few = subst (λ x. x ≤ 24) (sym e.positions) w.positions_range.1;
       none = none;
-      covered = covered;
       within = within;
       owned = owned;
       long = subst (λ x. x ≤ room) (sym e.size) long;

@@ -1,19 +1,23 @@
 -- The grid of a store: that of the frame where the check passes, the empty one where it refuses.
-use Rattle.std.proofs.Common.{◌≡◌, ℕ, zero, suc, ◌+◌, ◌<◌, ◌≤◌, Bool, true, false, cond, not, ◌&&◌, ltb, List, [], ◌∷◌, length, is_ok, Some, None, Ok, Err, Option, Result, sym, refl, ap, ◌∙◌, ap₂, zero-le, arith, lit≤}
+use Rattle.std.proofs.Common.{◌≡◌, ℕ, zero, suc, ◌+◌, ◌<◌, ◌≤◌, Bool, true, false, cond, not, ◌&&◌, ltb, List, [], ◌∷◌, length, is_ok, Some, None, Ok, Err, Option, Result, sym, refl, ap, ◌∙◌, ap₂, zero-le, not-suc-le-zero, arith, rules, lit≤, replicate}
 use mathlib.Core.Path.{fun_ext}
-use Rattle.std.proofs.lemmas.Bool.{and_parts, ltb-true, ltb-false, cond-true, cond-false, and_left, le-ltb, not_from_false, both_ways, false≢true}
+use native.Mathlib.Bridge.{le_prop}
+use Rattle.std.proofs.lemmas.Bool.{ltb-false, cond-true, cond-false, and_left, le-ltb, not_from_false, both_ways, false≢true}
+use Rattle.std.specs.Prelude.{slice_get}
+use Rattle.std.specs.Option.{option_map_or}
 use Rattle.refusals.specs.declared.Refusal.{Refusal}
 use Rattle.refusals.specs.Numbers.{numbered}
 use Rattle.theory.specs.Answers.{first_row, is_none, verdict}
 use Rattle.theory.specs.Formats.{Format, layout_of, lawful_format}
 use Rattle.theory.specs.Layouts.{LawfulKind, LawfulLayout}
-use Rattle.theory.specs.Octets.{AllOctets}
 use Rattle.theory.specs.Pictures.{no_picture}
 use Rattle.formats.specs.Frames.{frame_of, packed_octets}
 use Rattle.packed.specs.declared.grid.Grid.{Grid}
+use Rattle.packed.specs.declared.grid.Place.{Place}
+use Rattle.packed.specs.declared.grid.PlaneSizes.{PlaneSizes}
 use Rattle.packed.specs.BitRuns.{bit_at, run_at}
-use Rattle.packed.specs.Packs.{accepted, packed_frame, packed_picture, frame_beside, bit_of, bit_beside}
-use Rattle.packed.specs.Grids.{width_at, height_at, first_bit, bit_plane, bit_row, bit_column, empty_grid, grid_picture, grid_beside, Copies, Sound}
+use Rattle.packed.specs.Packs.{Covered, accepted, packed_picture, bit_beside}
+use Rattle.packed.specs.Grids.{width_at, height_at, first_bit, bit_plane, bit_row, bit_column, no_sizes, empty_grid, grid_picture, grid_beside, Copies, Sound, Made}
 use Rattle.packed.proofs.Linking.{same_bit, same_picture, same_beside, copies_sound}
 
 -- an answer is good where nothing refuses
@@ -31,36 +35,22 @@ found false b e = absurd (false≢true e)
 
 -- a lawful format's depth is one of its kind's
 pub has_octets : (f : Format) → lawful_format f ≡ true → 0 < (layout_of f).octets
-has_octets f e =
-    let a = and_parts _ _ e in
-    let b = and_parts _ _ a.0 in
-    let c = and_parts _ _ b.0 in
-    let d = and_parts _ _ c.0 in
-    ltb-true 0 (layout_of f).octets (and_parts _ _ d.0).0
+has_octets f e = search rules
 
 pub lawful_at : (f : Format) → LawfulKind f.kind → lawful_format f ≡ true → LawfulLayout f.kind f.depth
 lawful_at f law e = law.at_depth f.depth (has_octets f e)
-
--- what is promised of the grid of a store of a format over so many octets, whatever they hold
-pub record Made (f : Format) (room : ℕ) (g : Grid) : Type 0 where
-  pub sound : Sound g room
-  pub picture : (m : List ℕ) → length m ≡ room → AllOctets m → grid_picture g m ≡ packed_frame f m
-  pub beside : (m : List ℕ) → length m ≡ room → grid_beside g m ≡ frame_beside f m
-  pub first : accepted f room ≡ true → (p r c : ℕ) → first_bit g p r c ≡ bit_of (frame_of f) p r c
 
 module _ (f : Format) (room : ℕ) where
   -- the check finds the same over every list as long
   alike : (b : Bool) → accepted f room ≡ b → (m : List ℕ) → length m ≡ room → accepted f (length m) ≡ b
   alike b e m l = ap (accepted f) l ∙ e
 
-  pub allowed : accepted f room ≡ true → lawful_format f ≡ true
-  allowed e = (found (lawful_format f) (ltb room (packed_octets f)) e).0
-
   pub made : (g : Grid) → LawfulKind f.kind → accepted f room ≡ true → Copies g (frame_of f) → Made f room g
   made g law e copies =
       let t = frame_of f in
-      let w = lawful_at f law (allowed e) in
-      let long : packed_octets f ≤ room = ltb-false room (packed_octets f) (found (lawful_format f) (ltb room (packed_octets f)) e).1 in
+      let passed = found (lawful_format f) (ltb room (packed_octets f)) e in
+      let w = lawful_at f law passed.0 in
+      let long : packed_octets f ≤ room = ltb-false room (packed_octets f) passed.1 in
       record {
         sound = copies_sound g t copies w room long;
         picture = λ m l octets. same_picture g t copies w m (omega arith) octets
@@ -69,29 +59,56 @@ module _ (f : Format) (room : ℕ) where
         first = λ _. same_bit g t copies;
       }
 
+-- a grid of the empty one's numbers is the empty one
+pub same_empty : (covered : Covered 0 0 0) (deep : 1 ≤ 1) (narrow : 1 ≤ 16) (few : 0 ≤ 24) (x : Place) → x.plane ≡ 0 → x.row ≡ 0 → x.column ≡ 0
+    → ◌≡◌ {A = Grid} (record {
+      plane_count = 0;
+      depth = 1;
+      planes = replicate 3 (record { width = 0; height = 0; group_width = 0; group_height = 0; covered = covered });
+      row_groups = 0;
+      octets = 0;
+      positions = 0;
+      places = replicate 24 x;
+      size = 0;
+      deep = deep;
+      narrow = narrow;
+      few = few;
+    }) empty_grid
+same_empty covered deep narrow few x plane row column =
+    let never : covered ≡ (λ h. absurd (not-suc-le-zero h)) = fun_ext (λ h. absurd (not-suc-le-zero h)) in
+    λ i. record {
+      plane_count = 0;
+      depth = 1;
+      planes = replicate 3 (record { width = 0; height = 0; group_width = 0; group_height = 0; covered = never i });
+      row_groups = 0;
+      octets = 0;
+      positions = 0;
+      places = replicate 24 (record { plane = plane i; row = row i; column = column i });
+      size = 0;
+      deep = le_prop deep (lit≤ tt) i;
+      narrow = le_prop narrow (lit≤ tt) i;
+      few = le_prop few (lit≤ tt) i;
+    }
+
 -- the empty grid has no rows and no columns, so no place
+no_size : (told : PlaneSizes → ℕ) → told no_sizes ≡ 0 → (p : ℕ) → option_map_or told (slice_get empty_grid.planes p) 0 ≡ 0
+no_size told e zero = e
+no_size told e (suc zero) = e
+no_size told e (suc (suc zero)) = e
+no_size told e (suc (suc (suc p))) = refl
+
 no_rows : (p : ℕ) → height_at empty_grid p ≡ 0
-no_rows zero = refl
-no_rows (suc zero) = refl
-no_rows (suc (suc zero)) = refl
-no_rows (suc (suc (suc p))) = refl
+no_rows = no_size (λ x. x.height) refl
 
 no_columns : (p : ℕ) → width_at empty_grid p ≡ 0
-no_columns zero = refl
-no_columns (suc zero) = refl
-no_columns (suc (suc zero)) = refl
-no_columns (suc (suc (suc p))) = refl
+no_columns = no_size (λ x. x.width) refl
 
 nowhere : (p r c : ℕ) → (ltb r (height_at empty_grid p) && ltb c (width_at empty_grid p)) ≡ false
 nowhere p r c = and_left (ltb r (height_at empty_grid p)) (ltb c (width_at empty_grid p)) (le-ltb r (height_at empty_grid p) (omega (arith, no_rows p)))
 
 empty_sound : (room : ℕ) → Sound empty_grid room
 empty_sound room = record {
-  deep = lit≤ tt;
-  narrow = lit≤ tt;
-  few = lit≤ tt;
   none = λ p h. ap₂ (λ x y. x + y) (no_columns p) (no_rows p);
-  covered = λ p h. absurd (omega (arith, no_rows p));
   within = λ p r c h. absurd (omega (arith, no_rows p, h.0));
   owned = λ x k h. absurd (omega (arith, no_rows x.0, h.0));
   long = zero-le;

@@ -1,16 +1,16 @@
 -- One sample put: read again it is the value, every other sample is as it was, and so is every bit that is no sample's.
-use Rattle.std.proofs.Common.{◌≡◌, ℕ, zero, suc, ◌+◌, ◌-◌, ◌/◌, ◌%◌, ◌^◌, ◌<◌, ◌≤◌, Bool, true, false, cond, not, ◌&&◌, eqb, ltb, leb, List, [], ◌∷◌, None, sym, refl, ap, ◌∙◌, inl, inr, div-one, arith}
+use Rattle.std.proofs.Common.{◌≡◌, ℕ, zero, suc, ◌+◌, ◌-◌, ◌/◌, ◌%◌, ◌^◌, ◌<◌, ◌≤◌, true, false, cond, not, ◌&&◌, eqb, ltb, leb, List, [], ◌∷◌, None, sym, ap, ◌∙◌, ap₂, inl, inr, div-one, arith}
 use mathlib.Core.Path.{fun_ext}
 use native.Mathlib.Nat.{div-eq_of_lt}
 use Rattle.std.proofs.lemmas.Nat.{shr-shr}
-use Rattle.std.proofs.lemmas.Bool.{cases_Bool, cond-true, cond-false, and_parts, and_from, both_ways, ltb-true, leb-true, eqb-true, lt-ltb, le-leb, not_from_true, true≢false, false≢true}
+use Rattle.std.proofs.lemmas.Bool.{cases_Bool, cond-true, cond-false, and_parts, and_from, both_ways, ltb-true, leb-true, leb-false, eqb-true, lt-ltb, le-leb, not_from_true}
 use Rattle.std.proofs.lemmas.Bool.Decides.{nat_tests}
-use Rattle.theory.specs.Answers.{first_row}
-use Rattle.theory.specs.Pictures.{put, with_samples}
+use Rattle.theory.specs.Answers.{first_row, is_none}
+use Rattle.theory.specs.Pictures.{inside, put, put_refusal, put_after, with_samples}
 use Rattle.packed.specs.declared.grid.Grid.{Grid}
 use Rattle.packed.specs.BitRuns.{bit_at, run_at, bit_after}
 use Rattle.packed.proofs.Samples.{same_run}
-use Rattle.packed.specs.Grids.{width_at, height_at, first_bit, grid_picture, bit_plane, bit_row, bit_column, is_for, grid_beside, Owned}
+use Rattle.packed.specs.Grids.{width_at, height_at, first_bit, grid_picture, bit_plane, bit_row, bit_column, is_for, grid_beside, bit_left, Owned}
 
 -- a run that was put, read from its first bits on
 put_front : (m l : List ℕ) (b n x j : ℕ) → x < 2 ^ n → ((k : ℕ) → bit_at l k ≡ bit_after m b n x k) → j ≤ n → run_at l b j ≡ x / 2 ^ (n - j)
@@ -32,12 +32,6 @@ put_whole : (m l : List ℕ) (b n x : ℕ) → x < 2 ^ n → ((k : ℕ) → bit_
 put_whole m l b n x hx h =
     let e : n - n ≡ 0 = omega arith in
     put_front m l b n x n hx h (omega arith) ∙ ap (λ z. x / 2 ^ z) e ∙ div-one x
-
--- a put at a place inside of a value that is small enough
-pub not_refused : (a b : Bool) → a ≡ true → b ≡ false → first_row ((not a, 1) ∷ (b, 2) ∷ []) ≡ None
-not_refused true false e f = refl
-not_refused true true e f = absurd (true≢false f)
-not_refused false b e f = absurd (false≢true e)
 
 -- one place, told by two tests, and what holds of it
 same_place : (a b c p r d q s e : ℕ) → (eqb a p && eqb b r && eqb c d) ≡ true → (eqb a q && eqb b s && eqb c e) ≡ true
@@ -102,7 +96,7 @@ module _ (g : Grid) (owned : Owned g) (m l : List ℕ) (p r c x : ℕ) (hr : r <
         ]
       ]
 
-  pub put_picture : x < 2 ^ g.depth → grid_picture g l ≡ put (grid_picture g m) p r c x
+  put_picture : x < 2 ^ g.depth → grid_picture g l ≡ put (grid_picture g m) p r c x
   put_picture hx = ap (with_samples (grid_picture g m)) (fun_ext (λ q. fun_ext (λ s. fun_ext (λ d. put_sample hx q s d))))
 
   -- a bit that is for this place is a sample's
@@ -113,7 +107,7 @@ module _ (g : Grid) (owned : Owned g) (m l : List ℕ) (p r c x : ℕ) (hr : r <
       ∙ not_from_true (ltb r (height_at g p) && ltb c (width_at g p))
       (and_from (ltb r (height_at g p)) (ltb c (width_at g p)) (lt-ltb r (height_at g p) hr) (lt-ltb c (width_at g p) hc))
 
-  pub put_beside : grid_beside g l ≡ grid_beside g m
+  put_beside : grid_beside g l ≡ grid_beside g m
   put_beside = fun_ext (λ k.
       let here = is_for g p r c k in
       let free = not (ltb (bit_row g k) (height_at g (bit_plane g k)) && ltb (bit_column g k) (width_at g (bit_plane g k))) in
@@ -121,3 +115,21 @@ module _ (g : Grid) (owned : Owned g) (m l : List ℕ) (p r c x : ℕ) (hr : r <
         | inl e ↦ cond-false free (bit_at l k) 0 (taken_bit k e) ∙ sym (cond-false free (bit_at m k) 0 (taken_bit k e))
         | inr e ↦ ap (λ z. cond free z 0) (other_bit k (both_ways here e))
       ])
+
+-- what a value leaves that was written to the run of a place inside
+pub put_done : (g : Grid) (m l : List ℕ) (p r c x b n : ℕ) → Owned g → inside (grid_picture g m) p r c ≡ true → leb (2 ^ n) x ≡ false
+    → (b ≡ first_bit g p r c) × (n ≡ g.depth) → ((k : ℕ) → bit_at l k ≡ bit_after m b n x k)
+    → (grid_picture g l ≡ put_after (grid_picture g m) p r c x) × (grid_beside g l ≡ grid_beside g m)
+    × ((k : ℕ) → bit_at l k ≡ bit_left g m p r c x k)
+put_done g m l p r c x b n owned within fits is bits =
+    let v = grid_picture g m in
+    let small : leb (2 ^ g.depth) x ≡ false = ap (λ d. leb (2 ^ d) x) (sym is.1) ∙ fits in
+    let parts = and_parts (ltb r (height_at g p)) (ltb c (width_at g p)) within in
+    let hr = ltb-true r (height_at g p) parts.0 in
+    let hc = ltb-true c (width_at g p) parts.1 in
+    let taken : put_refusal v p r c x ≡ None = λ i. first_row ((not (within i), 1) ∷ (small i, 2) ∷ []) in
+    let here : (k : ℕ) → bit_at l k ≡ bit_after m (first_bit g p r c) g.depth x k = λ k. bits k ∙ ap₂ (λ a d. bit_after m a d x k) is.0 is.1 in (
+      put_picture g owned m l p r c x hr hc here (leb-false (2 ^ g.depth) x small) ∙ sym (ap (λ o. cond (is_none o) (put v p r c x) v) taken),
+      put_beside g owned m l p r c x hr hc here,
+      λ k. here k ∙ sym (ap (λ o. cond (is_none o) (bit_after m (first_bit g p r c) g.depth x k) (bit_at m k)) taken),
+    )

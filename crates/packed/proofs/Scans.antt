@@ -1,24 +1,33 @@
--- A search from a number on: where it ends.
-use Rattle.std.proofs.Common.{◌≡◌, ℕ, zero, suc, ◌+◌, ◌<◌, ◌≤◌, Bool, true, false, ap, ◌∙◌, inl, inr, arith}
-use Rattle.std.proofs.lemmas.Bool.{cases_eq, cond-true, cond-false}
+-- Where a search of a list ends: at the first number that passes, or behind the last.
+use Rattle.std.proofs.Common.{◌≡◌, ℕ, suc, ◌+◌, ◌<◌, Bool, cond, List, [], ◌∷◌, length, get_or, Some, sym, ap, ◌∙◌, inl, inr, arith}
+use Rattle.std.specs.Option.{unwrap_or}
+use Rattle.std.specs.List.{position_from}
+use Rattle.std.proofs.lemmas.Bool.{cases_Bool, cond-true, cond-false}
 use Rattle.theory.specs.Octets.{first_from}
 
-module _ (f : ℕ → Bool) where
-  -- at the first number that passes
-  pub scan_met : (n a i : ℕ) → a ≤ i → i < a + n → ((j : ℕ) → a ≤ j → j < i → f j ≡ false) → f i ≡ true → first_from a n f ≡ i
-  scan_met zero a i low high before e = omega arith
-  scan_met (suc n) a i low high before e = elim (cases_eq a i) [
-    | inl s ↦ cond-true (f a) a (first_from (a + 1) n f) (ap f s ∙ e) ∙ s
-    | inr s ↦
-        let less : a < i = grind (arith, s) in
-        cond-false (f a) a (first_from (a + 1) n f) (before a (omega arith) less)
-        ∙ scan_met n (a + 1) i (omega arith) (omega arith) (λ j l h. before j (omega arith) h) e
-  ]
+module _ {A : Type 0} (passes : A → Bool) (f : ℕ → Bool) where
+  scan_from : (xs : List A) (a : ℕ) → ((i : ℕ) (e : A) → i < length xs → passes (get_or xs i e) ≡ f (a + i))
+      → unwrap_or (position_from passes a xs) (a + length xs) ≡ first_from a (length xs) f
+  scan_from [] a same = omega arith
+  scan_from (x ∷ xs) a same =
+      let start : a + 0 ≡ a = omega arith in
+      let here : f a ≡ passes x = ap f (sym start) ∙ sym (same 0 x (omega arith)) in
+      let rest = position_from passes (a + 1) xs in
+      let end = a + length (x ∷ xs) in
+      let more : end ≡ a + 1 + length xs = omega arith in
+      elim (cases_Bool (passes x)) [
+        | inl e ↦ ap (λ b. unwrap_or (cond b (Some a) rest) end) e ∙ sym (cond-true (f a) a (first_from (a + 1) (length xs) f) (here ∙ e))
+        | inr e ↦
+            ap (λ b. unwrap_or (cond b (Some a) rest) end) e
+            ∙ ap (unwrap_or rest) more
+            ∙ scan_from xs (a + 1) (λ i y h. let next : a + suc i ≡ a + 1 + i = omega arith in same (suc i) y (omega arith) ∙ ap f next)
+            ∙ sym (cond-false (f a) a (first_from (a + 1) (length xs) f) (here ∙ e))
+      ]
 
-  -- or behind the last
-  pub scan_ended : (n a : ℕ) → ((j : ℕ) → a ≤ j → j < a + n → f j ≡ false) → first_from a n f ≡ a + n
-  scan_ended zero a before = omega arith
-  scan_ended (suc n) a before =
-      cond-false (f a) a (first_from (a + 1) n f) (before a (omega arith) (omega arith))
-      ∙ scan_ended n (a + 1) (λ j l h. before j (omega arith) (omega arith))
-      ∙ omega arith
+  -- elements pass just where their indices do
+  pub position_scan : (xs : List A) → ((i : ℕ) (e : A) → i < length xs → passes (get_or xs i e) ≡ f i)
+      → unwrap_or (position_from passes 0 xs) (length xs) ≡ first_from 0 (length xs) f
+  position_scan xs same =
+      let e : length xs ≡ 0 + length xs = omega arith in
+      ap (unwrap_or (position_from passes 0 xs)) e
+      ∙ scan_from xs 0 (λ i x h. let z : i ≡ 0 + i = omega arith in same i x h ∙ ap f z)

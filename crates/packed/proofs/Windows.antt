@@ -1,9 +1,10 @@
 -- Runs of bits, read and written through a window of three octets.
-use Rattle.std.proofs.Common.{◌≡◌, ℕ, zero, suc, ◌+◌, ◌-◌, ◌*◌, ◌/◌, ◌%◌, ◌^◌, ◌<◌, ◌≤◌, ◌&&◌, ltb, leb, ◌≢◌, List, [], ◌∷◌, length, get_or, set, sym, refl, ap, ◌∙◌, subst, ap₂, inl, inr, mod-eq_of_lt, arith, length-set, get_or-set_other, get_or-set_same}
+use Rattle.std.proofs.Common.{◌≡◌, ℕ, zero, suc, ◌+◌, ◌-◌, ◌*◌, ◌/◌, ◌%◌, ◌^◌, ◌<◌, ◌≤◌, ◌≢◌, List, [], ◌∷◌, length, get_or, sym, refl, ap, ◌∙◌, subst, ap₂, inl, inr, mod-eq_of_lt, arith, length-set, get_or-set_other, get_or-set_same}
 use lib.Pow.{mod-mod-pow}
 use Rattle.std.proofs.lemmas.List.{get_or_past}
 use Rattle.std.proofs.lemmas.Nat.{shr-shr, field_of, pow_pos, pow-add, mod_below, mod_low, shr_high, shr_below, mul-add-lt, mul-le, one_shl}
-use Rattle.std.proofs.lemmas.Bool.{cases_lt, cond-true, cond-false, and_left, and_right, and_from, lt-leb, le-leb, lt-ltb, le-ltb}
+use Rattle.std.proofs.lemmas.Bool.{cases_lt}
+use Rattle.std.proofs.lemmas.Bool.Decides.{nat_tests}
 use Rattle.std.specs.Int.Digits.{number_from_digits, AllBelowBase}
 use Rattle.packed.proofs.Samples.{same_run, octets_bit, octets_run}
 use Rattle.packed.specs.BitRuns.{bit_at, run_at, bit_after, window_at, window_set, spliced}
@@ -118,36 +119,18 @@ splice_shifts w s n x hw hs hx =
 
 -- what a window-set leaves: three octets, where they are there
 kept_octet : (m : List ℕ) (i n j : ℕ) → j ≢ i → j ≢ i + 1 → j ≢ i + 2 → get_or (window_set m i n) j 0 ≡ get_or m j 0
-kept_octet m i n j x y z =
-    get_or-set_other (set (set m i (n / 65536)) (i + 1) (n / 256 % 256)) (i + 2) j (n % 256) 0 z
-    ∙ get_or-set_other (set m i (n / 65536)) (i + 1) j (n / 256 % 256) 0 y
-    ∙ get_or-set_other m i j (n / 65536) 0 x
+kept_octet m i n j x y z = grind (arith, get_or-set_other)
 
 same_length : (m : List ℕ) (i n : ℕ) → length (window_set m i n) ≡ length m
-same_length m i n =
-    length-set (set (set m i (n / 65536)) (i + 1) (n / 256 % 256)) (i + 2) (n % 256)
-    ∙ length-set (set m i (n / 65536)) (i + 1) (n / 256 % 256)
-    ∙ length-set m i (n / 65536)
+same_length m i n = simp length-set refl
 
 past_octets : (m : List ℕ) (i n j : ℕ) → length m ≤ j → get_or (window_set m i n) j 0 ≡ get_or m j 0
 past_octets m i n j h = get_or_past (window_set m i n) j 0 (omega (arith, same_length m i n)) ∙ sym (get_or_past m j 0 h)
 
 new_octet : (m : List ℕ) (i n j : ℕ) → j < 3 → i + j < length m → get_or (window_set m i n) (i + j) 0 ≡ get_or (n / 65536 ∷ n / 256 % 256 ∷ n % 256 ∷ []) j 0
-new_octet m i n zero h k =
-    let m1 = set m i (n / 65536) in
-    let e : i + 0 ≡ i = omega arith in
-    ap (λ z. get_or (window_set m i n) z 0) e
-    ∙ get_or-set_other (set m1 (i + 1) (n / 256 % 256)) (i + 2) i (n % 256) 0 (λ z. omega arith)
-    ∙ get_or-set_other m1 (i + 1) i (n / 256 % 256) 0 (λ z. omega arith)
-    ∙ get_or-set_same m i (n / 65536) 0 (omega arith)
-new_octet m i n (suc zero) h k =
-    let m1 = set m i (n / 65536) in
-    get_or-set_other (set m1 (i + 1) (n / 256 % 256)) (i + 2) (i + 1) (n % 256) 0 (λ z. omega arith)
-    ∙ get_or-set_same m1 (i + 1) (n / 256 % 256) 0 (omega (arith, length-set m i (n / 65536)))
-new_octet m i n (suc (suc zero)) h k =
-    let m1 = set m i (n / 65536) in
-    let m2 = set m1 (i + 1) (n / 256 % 256) in
-    get_or-set_same m2 (i + 2) (n % 256) 0 (omega (arith, length-set m i (n / 65536), length-set m1 (i + 1) (n / 256 % 256)))
+new_octet m i n zero h k = grind (arith, get_or-set_other, get_or-set_same, length-set)
+new_octet m i n (suc zero) h k = grind (arith, get_or-set_other, get_or-set_same, length-set)
+new_octet m i n (suc (suc zero)) h k = grind (arith, get_or-set_other, get_or-set_same, length-set)
 new_octet m i n (suc (suc (suc j))) h k = omega arith
 
 new_bit : (m : List ℕ) (i n t : ℕ) → n < 2 ^ 24 → t < 24 → i + t / 8 < length m → bit_at (window_set m i n) (8 * i + t) ≡ n / 2 ^ (23 - t) % 2
@@ -162,13 +145,13 @@ new_bit m i n t hn ht hl =
 
 -- a bit outside the run
 out_before : (m : List ℕ) (b n x k : ℕ) → k < b → bit_at m k ≡ bit_after m b n x k
-out_before m b n x k h = sym (cond-false (leb b k && ltb k (b + n)) (x / 2 ^ (b + n - 1 - k) % 2) (bit_at m k) (and_left (leb b k) (ltb k (b + n)) (lt-leb b k h)))
+out_before m b n x k h = grind (arith, nat_tests)
 
 out_after : (m : List ℕ) (b n x k : ℕ) → b + n ≤ k → bit_at m k ≡ bit_after m b n x k
-out_after m b n x k h = sym (cond-false (leb b k && ltb k (b + n)) (x / 2 ^ (b + n - 1 - k) % 2) (bit_at m k) (and_right (leb b k) (ltb k (b + n)) (le-ltb k (b + n) h)))
+out_after m b n x k h = grind (arith, nat_tests)
 
 in_run : (m : List ℕ) (b n x k : ℕ) → b ≤ k → k < b + n → x / 2 ^ (b + n - 1 - k) % 2 ≡ bit_after m b n x k
-in_run m b n x k h l = sym (cond-true (leb b k && ltb k (b + n)) (x / 2 ^ (b + n - 1 - k) % 2) (bit_at m k) (and_from (leb b k) (ltb k (b + n)) (le-leb b k h) (lt-ltb k (b + n) l)))
+in_run m b n x k h l = grind (arith, nat_tests)
 
 -- a splice of the window, set, changes the run and no other bit
 pub put_run : (m : List ℕ) (b n x : ℕ) → Octets m (b / 8) → window_at m (b / 8) < 2 ^ 24 → n ≤ 16 → x < 2 ^ n → b + n ≤ 8 * length m

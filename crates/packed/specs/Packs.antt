@@ -1,5 +1,5 @@
 -- A frame kept in octets as it stands on the wire: group after group, unit row after unit row, without gaps, fill included.
-use Rattle.std.specs.Prelude.{ℕ, ◌+◌, ◌*◌, ◌/◌, ◌%◌, Bool, cond, not, ◌&&◌, List, [], ◌∷◌, length, take, drop, Option, Result, nat_lt}
+use Rattle.std.specs.Prelude.{ℕ, ◌+◌, ◌*◌, ◌/◌, ◌%◌, ◌<◌, Bool, cond, not, ◌&&◌, List, [], ◌∷◌, length, take, drop, Option, Result, nat_lt}
 use Rattle.theory.specs.Answers.{first_row, is_none, verdict}
 use Rattle.theory.specs.Formats.{Format, Part, layout_of, lawful_format, plane_width, plane_height}
 use Rattle.theory.specs.Groups.{value_at, group_of, position_in_group, is_fill}
@@ -32,6 +32,10 @@ abbrev pub bit_beside : Part → List ℕ → ℕ → ℕ
 bit_beside t m k =
     let bits = (layout_of t.format).octets * 8 in
     cond (is_fill t (k / bits) (k % bits / t.format.depth)) (bit_at m k) 0
+
+-- a plane that has h rows has some rows and columns in a group, d and e
+abbrev pub Covered : ℕ → ℕ → ℕ → Type 0
+Covered h d e = 0 < h → 0 < d * e
 
 -- why a store over so many octets is refused
 abbrev pub packed_refusal : Format → ℕ → Option ℕ

@@ -1,18 +1,18 @@
 //! The packed picture store: octets as on the wire.
 
-ghost use Rattle.std.specs.Prelude.{◌≡◌, ℕ, ◌+◌, ◌*◌, ◌/◌, ◌^◌, ◌<◌, ◌≤◌, true, List, length, slice_set};
+ghost use Rattle.std.specs.Prelude.{◌≡◌, ℕ, true, List, length};
 ghost use Rattle.refusals.specs.Numbers.{numbered};
 ghost use Rattle.theory.specs.Octets.{AllOctets};
 ghost use Rattle.theory.specs.Pictures.{put_answer, put_after};
 ghost use Rattle.stores.specs.Keeping.{IfRefused};
-ghost use Rattle.packed.specs.BitRuns.{bit_at, bit_after, window_set};
+ghost use Rattle.packed.specs.BitRuns.{bit_at};
 ghost use Rattle.formats.specs.Meaning.{format_of};
 ghost use Rattle.formats.specs.Frames.{frame_of};
 ghost use Rattle.packed.specs.Packs.{packed_check, accepted, packed_frame, frame_beside, bit_of};
-ghost use Rattle.packed.specs.Grids.{Within, Owned, NoneBehind, Covered, grid_picture, grid_beside, first_bit, grid_lawful, bit_left, Unchanged, unchanged};
+ghost use Rattle.packed.specs.Grids.{Sound, grid_picture, grid_beside, first_bit, grid_lawful, bit_left, Unchanged, unchanged};
 
+use crate::frame;
 use crate::grid::Grid;
-use crate::{bits, frame};
 use formats::Format;
 use kinds::GroupKind;
 use refusals::Refusal;
@@ -23,14 +23,7 @@ use stores::Store;
 pub struct Packed<'a> {
     grid: Grid,
     octets: &'a mut [u8],
-    ghost deep: { 1 ≤ grid.depth },
-    ghost narrow: { grid.depth ≤ 16 },
-    ghost few: { grid.positions ≤ 24 },
-    ghost none: { NoneBehind grid },
-    ghost covered: { Covered grid },
-    ghost within: { Within grid },
-    ghost owned: { Owned grid },
-    ghost long: { grid.size ≤ length octets.now },
+    ghost sound: { Sound grid (length octets.now) },
 }
 
 impl<'a> Packed<'a> {
@@ -54,53 +47,19 @@ impl<'a> Packed<'a> {
         let grid = Grid::new(format, octets);
         Packed { grid, octets }
     }
-
-    // The window at a bit, once a sample stands there.
-    fn window_with(&self, bit: usize, value: u16) -> u32
-        requires small { value < 2 ^ self.now.grid.depth }
-        requires room { bit + self.now.grid.depth ≤ 8 * self.now.grid.size }
-        ensures below { result < 2 ^ 24 }
-        ensures bits { (k : ℕ) → bit_at (window_set self.now.octets.now (bit / 8) result) k ≡ bit_after self.now.octets.now bit self.now.grid.depth value k }
-    {
-        bits::window_with(self.octets, bit, self.grid.depth, value)
-    }
-
-    // Sets the octet at an index, and nothing past the end.
-    fn set_octet(&mut self, i: usize, value: u8)
-        ensures octets { self.new.octets.now ≡ slice_set self.old.octets.now i value }
-        ensures grid { self.new.grid ≡ self.old.grid }
-        ensures memory { self.new.octets.ghost_name ≡ self.old.octets.ghost_name }
-    {
-        if i < self.octets.len() {
-            self.octets[i] = value;
-        }
-    }
-
-    // Sets three octets from one number.
-    fn set_window(&mut self, i: usize, number: u32)
-        requires low { i < 2 ^ 63 }
-        requires below { number < 2 ^ 24 }
-        ensures octets { self.new.octets.now ≡ window_set self.old.octets.now i number }
-        ensures grid { self.new.grid ≡ self.old.grid }
-        ensures memory { self.new.octets.ghost_name ≡ self.old.octets.ghost_name }
-    {
-        self.set_octet(i, (number / 65536) as u8);
-        self.set_octet(i + 1, (number / 256 % 256) as u8);
-        self.set_octet(i + 2, (number % 256) as u8);
-    }
 }
 
 impl<'a> Store for Packed<'a> {
     ghost picture = { λ s. grid_picture s.grid s.octets.now };
 
-    ghost lawful = { λ s. grid_lawful s.grid s.octets.now s.deep s.narrow s.none };
+    ghost lawful = { λ s. grid_lawful s.grid s.octets.now s.sound.none };
 
     ghost Rest = { Unchanged };
 
     ghost rest = { λ s. unchanged s.octets.ghost_name s.grid s.octets.now };
 
     fn planes(&self) -> usize {
-        self.grid.planes as usize
+        self.grid.plane_count as usize
     }
 
     fn width(&self, plane: usize) -> usize {
@@ -116,11 +75,11 @@ impl<'a> Store for Packed<'a> {
     }
 
     fn show(&self, plane: usize, row: usize, column: usize) -> Result<u16, Refusal> {
-        if !self.grid.has(plane, row, column) {
-            return Err(Refusal::NoSuchPlace);
-        }
-        let bit = self.grid.bit(plane, row, column);
-        Ok(bits::run(self.octets, bit, self.grid.depth))
+        let run = self
+            .grid
+            .run(plane, row, column)
+            .ok_or(Refusal::NoSuchPlace)?;
+        Ok(run.read(self.octets))
     }
 
     fn put(&mut self, plane: usize, row: usize, column: usize, value: u16) -> Result<(), Refusal>
@@ -131,15 +90,14 @@ impl<'a> Store for Packed<'a> {
         ensures bits { (k : ℕ) → bit_at self.new.octets.now k ≡ bit_left self.old.grid self.old.octets.now plane row column value k }
         ensures memory { self.new.octets.ghost_name ≡ self.old.octets.ghost_name }
     {
-        if !self.grid.has(plane, row, column) {
-            return Err(Refusal::NoSuchPlace);
-        }
-        if self.grid.overflows(value) {
+        let run = self
+            .grid
+            .run(plane, row, column)
+            .ok_or(Refusal::NoSuchPlace)?;
+        if run.overflows(value) {
             return Err(Refusal::ValueTooLarge);
         }
-        let bit = self.grid.bit(plane, row, column);
-        let number = self.window_with(bit, value);
-        self.set_window(bit / 8, number);
+        run.write(self.octets, value);
         Ok(())
     }
 }

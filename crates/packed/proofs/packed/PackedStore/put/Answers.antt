@@ -1,41 +1,23 @@
-use Rattle.std.proofs.Common.{◌≡◌, ℕ, ◌^◌, ◌<◌, true, false, cond, ltb, leb, None, sym, ap, ◌∙◌}
-use Rattle.std.proofs.lemmas.Bool.{and_parts, ltb-true, leb-false}
-use Rattle.theory.specs.Answers.{is_none, verdict}
-use Rattle.theory.specs.Pictures.{inside, put, put_refusal}
-use Rattle.packed.specs.BitRuns.{bit_at, bit_after}
-use Rattle.packed.specs.Grids.{width_at, height_at, first_bit, grid_picture, grid_beside}
-use Rattle.packed.proofs.Runs.{put_picture, put_beside, not_refused}
+use Rattle.std.proofs.Common.{◌≡◌, true, is_some, Some, sym, refl, ap, ◌∙◌, rules}
+use Rattle.theory.specs.Pictures.{inside}
+use Rattle.packed.specs.Grids.{grid_picture}
+use Rattle.packed.proofs.Runs.{put_done}
 use Rattle.packed.proofs.packed.PackedStore.put.Goals as goal
 
 pub returns : goal.returns
 returns c =
     let s = c.args.self.now in
-    let g = s.grid in
-    let m = s.octets.now in
-    let l = c.set_window.new.self.octets.now in
-    let p = c.args.plane in
-    let r = c.args.row in
-    let d = c.args.column in
-    let x = c.args.value in
-    let v = grid_picture g m in
-    let within : inside v p r d ≡ true = sym c.has.ensures ∙ c.if-not-has.false in
-    let small : leb (2 ^ g.depth) x ≡ false = sym c.overflows.ensures ∙ c.if-overflows.false in
-    let parts = and_parts (ltb r (height_at g p)) (ltb d (width_at g p)) within in
-    let hr : r < height_at g p = ltb-true r (height_at g p) parts.0 in
-    let hd : d < width_at g p = ltb-true d (width_at g p) parts.1 in
-    let hx : x < 2 ^ g.depth = leb-false (2 ^ g.depth) x small in
-    let taken : put_refusal v p r d x ≡ None = not_refused (inside v p r d) (leb (2 ^ g.depth) x) within small in
-    let bits : (k : ℕ) → bit_at l k ≡ bit_after m (first_bit g p r d) g.depth x k = λ k.
-    ap (λ z. bit_at z k) c.set_window.ensures.octets ∙ c.window_with-number.ensures.bits k
-    ∙ ap (λ b. bit_after m b g.depth x k) c.bit-bit.ensures in
-    let same = c.set_window.ensures.grid in
-    let beside = ap (λ z. grid_beside z l) same ∙ put_beside g s.owned m l p r d x hr hd bits in
+    let run = c.in_ok-run.run' in
+    let some : c.run.result ≡ Some run = search rules in
+    let within : inside (grid_picture s.grid s.octets.now) c.args.plane c.args.row c.args.column ≡ true = sym c.run.ensures.place ∙ ap is_some some in
+    let small = sym c.overflows.ensures ∙ c.if-overflows.false in
+    let left = put_done s.grid s.octets.now c.write.new.octets c.args.plane c.args.row c.args.column c.args.value run.first run.depth s.sound.owned
+    within small (search rules) c.write.ensures in
     record {
-      answer = sym (ap verdict taken);
-      picture = ap (λ z. grid_picture z l) same ∙ put_picture g s.owned m l p r d x hr hd bits hx
-          ∙ sym (ap (λ o. cond (is_none o) (put v p r d x) v) taken);
-      rest = λ i. (c.set_window.ensures.memory i, same i, beside i);
+      answer = search rules;
+      picture = left.0;
+      rest = ap (λ beside. (s.octets.ghost_name, s.grid, beside)) left.1;
       kept = tt;
-      bits = λ k. bits k ∙ sym (ap (λ o. cond (is_none o) (bit_after m (first_bit g p r d) g.depth x k) (bit_at m k)) taken);
-      memory = c.set_window.ensures.memory;
+      bits = left.2;
+      memory = refl;
     }
