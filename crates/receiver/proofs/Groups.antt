@@ -1,15 +1,18 @@
 -- The groups of a segment, one after another: what a turn of the loop leaves.
-use Rattle.std.proofs.Common.{◌≡◌, ℕ, ◌+◌, ◌-◌, ◌*◌, ◌<◌, ◌≤◌, Bool, true, false, cond, not, ◌&&◌, ◌||◌, eqb, List, length, get_or, take, drop, sym, refl, ap, ◌∙◌, ap₂, mul-le-mul_right, add-mul, one-mul, arith}
+use Rattle.std.proofs.Common.{◌≡◌, ℕ, ◌+◌, ◌-◌, ◌*◌, ◌<◌, ◌≤◌, Bool, true, false, cond, not, ◌&&◌, ◌||◌, eqb, List, ◌++◌, length, get_or, take, drop, sym, refl, ap, ◌∙◌, ap₂, mul-le-mul_right, add-mul, one-mul, zero-mul, arith, length-append, length-drop}
 use Rattle.std.proofs.lemmas.Bool.{and_left, both_ways, eqb-true, eq-eqb}
 use Rattle.std.proofs.lemmas.Bool.Decides.{nat_tests}
+use Rattle.std.proofs.lemmas.List.{take_at, drop_at, drop-drop}
+use Rattle.std.proofs.Math.Nat.{le_of_mul-le-mul_right, lt_of_mul-lt-mul_right}
 use Rattle.theory.specs.Octets.{bit, count_below, marked}
-use Rattle.theory.specs.Formats.{Part, layout_of, groups}
+use Rattle.packets.specs.Reading.{Placed}
+use Rattle.theory.specs.Formats.{Part, layout_of, row_groups, groups}
 use Rattle.theory.specs.Pictures.{Picture}
 use Rattle.theory.specs.Groups.{filled, group_of, value_at}
 use Rattle.theory.proofs.Filling.{filled_none, filled_same, filled_twice}
 use Rattle.theory.proofs.Maps.{marked_none, marked_same, marked_twice, bit_marked}
 use Rattle.theory.proofs.Named.{count_same, count_none}
-use Rattle.receiver.specs.Filling.{group_value, run, run_sets, run_value}
+use Rattle.receiver.specs.Filling.{InPart, start_of, group_value, run, run_sets, run_value}
 use Rattle.receiver.proofs.Counting.{count_join, count_one}
 
 run_none : (s g : ℕ) → run s 0 g ≡ false
@@ -55,18 +58,51 @@ counted true false false h k = refl
 counted false false true h k = refl
 counted false false false h k = refl
 
--- group i of n, of o octets each, lies in the segment
-pub room : (i n o size : ℕ) → i < n → n * o ≤ size → i * o + o ≤ size
-room i n o size h k =
-    let most : (i + 1) * o ≤ n * o = mul-le-mul_right o (omega arith) in
-    omega (arith, add-mul i 1 o, one-mul o)
+-- the octets of n groups of o octets each, group after group
+-- the first i of them are behind, and these octets are ahead
+pub record Ahead (n o : ℕ) (os : List ℕ) (i : ℕ) (rest : List ℕ) : Type 0 where
+  pub few : i ≤ n
+  pub octets : rest ≡ drop (i * o) os
 
--- the octets of group g of a segment, as the code cuts them
-cut_out : (os : List ℕ) (i g s o o' : ℕ) → g ≡ s + i → o ≡ o' → take (i * o + o - i * o) (drop (i * o) os) ≡ take o' (drop ((g - s) * o') os)
-cut_out os i g s o o' e eo =
-    let a : i * o + o - i * o ≡ o = omega arith in
-    let b : i ≡ g - s = omega arith in
-    ap (λ n. take n (drop (i * o) os)) a ∙ ap₂ (λ n x. take x (drop (n * x) os)) b eo
+module _ (n o : ℕ) (some : 0 < o) (os : List ℕ) (whole : length os ≡ n * o) where
+  pub all_ahead : (rest : List ℕ) → rest ≡ os → Ahead n o os 0 rest
+  all_ahead rest e = record { few = omega arith; octets = e ∙ ap (λ k. drop k os) (sym (zero-mul o)) }
+
+  pub one_taken : (i : ℕ) (x rest rest' : List ℕ) → Ahead n o os i rest → rest ≡ x ++ rest' → length x ≡ o
+      → (i < n) × (x ≡ take o (drop (i * o) os)) × Ahead n o os (i + 1) rest'
+  one_taken i x rest rest' ahead e size =
+      let long : o ≤ length rest = omega (arith, size, simp length-append at (ap length e)) in
+      let left : length rest ≡ n * o - i * o = ap length ahead.octets ∙ length-drop (i * o) os ∙ ap (λ k. k - i * o) whole in
+      let next : i * o + o ≡ (i + 1) * o = omega (arith, add-mul i 1 o, one-mul o) in
+      let more : i + 1 ≤ n = le_of_mul-le-mul_right {k = o} (omega arith) some in (
+        omega arith,
+        sym (take_at x rest' o size) ∙ ap (take o) (sym e ∙ ahead.octets),
+        record {
+          few = more;
+          octets = sym (drop_at x rest' o size) ∙ ap (drop o) (sym e ∙ ahead.octets) ∙ drop-drop o (i * o) os ∙ ap (λ k. drop k os) next;
+        },
+      )
+
+  pub none_ahead : (i : ℕ) (rest : List ℕ) → Ahead n o os i rest → length rest < o → i ≡ n
+  none_ahead i rest ahead short =
+      let left : length rest ≡ n * o - i * o = ap length ahead.octets ∙ length-drop (i * o) os ∙ ap (λ k. k - i * o) whole in
+      let h : i * o ≤ n * o = mul-le-mul_right o ahead.few in
+      let k : n * o < (i + 1) * o = omega (arith, add-mul i 1 o, one-mul o) in
+      let m : n < i + 1 = lt_of_mul-lt-mul_right o k in
+      omega (arith, ahead.few)
+
+-- one more group of a segment
+module _ (t : Part) (x : Placed) (inside : InPart t x) (some : 0 < (layout_of t.format).octets) where
+  pub group_taken : (i size : ℕ) (octets rest rest' : List ℕ) → size ≡ (layout_of t.format).octets
+      → Ahead x.groups (layout_of t.format).octets x.octets i rest → (rest ≡ octets ++ rest') × (length octets ≡ size)
+      → (i < x.groups) × (octets ≡ take (layout_of t.format).octets (drop (i * (layout_of t.format).octets) x.octets))
+      × Ahead x.groups (layout_of t.format).octets x.octets (i + 1) rest'
+  group_taken i size octets rest rest' e ahead cut =
+      one_taken x.groups (layout_of t.format).octets some x.octets inside.whole i octets rest rest' ahead cut.0 (cut.1 ∙ e)
+
+-- the number of group i, as the code has it
+pub number_is : (t : Part) (x : Placed) (r i j : ℕ) → r ≡ row_groups t.format → j ≡ i → x.unit_row * r + x.first_group + j ≡ start_of t x + i
+number_is t x r i j e k = ap₂ (λ a b. x.unit_row * a + x.first_group + b) e k
 
 -- the first i groups from s on, of a segment's octets, into a picture v and a map m: what is in them now, and the count
 abbrev pub SegmentSoFar : Part → Picture → List ℕ → List ℕ → ℕ → ℕ → Picture → List ℕ → ℕ → Type 0
@@ -96,19 +132,20 @@ entry_bit m map s i n b e h l eb =
 
 module _ (t : Part) (v : Picture) (m os : List ℕ) (s i : ℕ) (now : Picture) (map : List ℕ) (count n : ℕ)
     (so_far : SegmentSoFar t v m os s i now map count) (number : n ≡ s + i) (below : s + i < groups t) (mapped : groups t ≤ 8 * length m) where
-  pub segment_puts : (n' o : ℕ) (now' : Picture) (map' : List ℕ) (count' : ℕ) → n' ≡ s + i → o ≡ (layout_of t.format).octets → bit map n ≡ false
-      → now' ≡ filled t now (λ h _. eqb h n') (group_value t (take (i * o + o - i * o) (drop (i * o) os)))
+  pub segment_puts : (n' : ℕ) (now' : Picture) (map' : List ℕ) (count' : ℕ) → n' ≡ s + i → bit map n ≡ false
+      → (piece : List ℕ) → piece ≡ take (layout_of t.format).octets (drop (i * (layout_of t.format).octets) os)
+      → now' ≡ filled t now (λ h _. eqb h n') (group_value t piece)
       → map' ≡ marked map (λ k. eqb k n) → count' ≡ count + 1 → SegmentSoFar t v m os s (i + 1) now' map' count'
-  segment_puts n' o now' map' count' number' eo clear ep em ec =
+  segment_puts n' now' map' count' number' clear piece is ep em ec =
       let f = run_value t os s in
-      let piece : List ℕ = take (i * o + o - i * o) (drop (i * o) os) in
       let same : n' ≡ n = number' ∙ sym number in
       let b : bit m n ≡ false = entry_bit m map s i n false so_far.1 number (omega arith) clear in
       let clear_at : (h : ℕ) → eqb h n ≡ true → bit m h ≡ false = λ h e. ap (bit m) (eqb-true h n e) ∙ b in
       let more : (h : ℕ) → run s (i + 1) h ≡ (run s i h || eqb h n) = λ h. run_more s i h n number in
       let value : (h k : ℕ) → eqb h n ≡ true → group_value t piece h k ≡ f h k = λ h k e.
-      ap (λ x. value_at (layout_of t.format) t.format.depth x k)
-      (cut_out os i h s o (layout_of t.format).octets (eqb-true h n e ∙ number) eo) in (
+      let o = (layout_of t.format).octets in
+      let from_s : i ≡ h - s = omega (arith, eqb-true h n e) in
+      ap (λ x. value_at (layout_of t.format) t.format.depth x k) (is ∙ ap (λ j. take o (drop (j * o) os)) from_s) in (
         ep
             ∙ ap₂ (λ p x. filled t p (λ h _. eqb h x) (group_value t piece)) so_far.0 same
             ∙ filled_twice t v (λ h _. run_sets m s i h) (λ h _. eqb h n) f (group_value t piece) f value (λ _ _ _ _. refl)

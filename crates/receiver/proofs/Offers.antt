@@ -61,6 +61,11 @@ module _ (t : Part) (v : Picture) (m : List ℕ) (ready : survey_refusal t v m �
   pub map_long : groups t ≤ 8 * length m
   map_long = let h : map_octets t ≤ length m = ltb-false (length m) (map_octets t) six.1 in omega arith
 
+  -- they still do, when samples and bits were put
+  pub ready_still : (v' : Picture) (m' : List ℕ) → fits_part v' t ≡ fits_part v t → length m' ≡ length m → survey_refusal t v' m' ≡ None
+  ready_still v' m' fit long =
+      ap₂ (λ b n. first_row ((not (lawful_format t.format), 4) ∷ (not b || ltb n (map_octets t), 6) ∷ [])) fit long ∙ ready
+
   module _ (q : List ℕ) where
     -- the packet's rows alone are left
     offer_as_read : offer_refusal t v m q ≡ reading_refusal t q

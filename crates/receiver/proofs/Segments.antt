@@ -1,23 +1,24 @@
 -- The segments of a packet, one after another: what a turn of the loop leaves, and the packet whole.
-use Rattle.std.proofs.Common.{◌≡◌, ℕ, zero, suc, ◌+◌, ◌-◌, ◌*◌, ◌<◌, ◌≤◌, Bool, true, false, cond, not, ◌&&◌, ◌||◌, ltb, leb, List, length, get_or, take, drop, Some, None, sym, refl, ap, ◌∙◌, subst, ap₂, inl, inr, div-le_self, add-one, arith, lit≤, length-drop, length-take}
+use Rattle.std.proofs.Common.{◌≡◌, ℕ, zero, suc, ◌+◌, ◌-◌, ◌*◌, ◌<◌, ◌≤◌, Bool, true, false, cond, not, ◌&&◌, ◌||◌, ltb, leb, List, length, take, drop, Some, None, sym, refl, ap, ◌∙◌, subst, ap₂, inl, inr, div-le_self, add-one, mul-le-mul_right, add-mul, one-mul, arith, lit≤, length-drop, length-take}
 use Rattle.std.proofs.lemmas.List.{drop-take, take-take, drop-drop}
 use Rattle.std.proofs.lemmas.Bool.{both_ways, cases_order, cond-true, cond-false, and_parts, leb-true, ltb-true, lt-ltb, not-true}
 use Rattle.packets.specs.Reading.{Placed, Carried, carried, segment_at}
 use Rattle.packets.specs.Carried.{segment_of}
-use Rattle.theory.specs.Octets.{bit, any_below, first_from, count_below, marked}
-use Rattle.theory.specs.Formats.{Part, layout_of, row_groups, groups}
+use Rattle.theory.specs.Octets.{AllOctets, bit, any_below, first_from, count_below, marked}
+use Rattle.theory.specs.Formats.{Part, layout_of, groups}
 use Rattle.theory.specs.Pictures.{Picture}
 use Rattle.theory.specs.Groups.{filled, value_at, group_of}
 use Rattle.theory.specs.Packets.{continues, headers, lengths, srd_length, srd_row, data_start, segment_groups}
 use Rattle.theory.specs.Naming.{SoundNaming}
 use Rattle.theory.specs.Taking.{segment_start, segment_names, names, octets_of, taken, sets, picture_after, map_after, set_count}
 use Rattle.theory.proofs.Filling.{filled_none, filled_same, filled_twice}
-use Rattle.theory.proofs.Maps.{marked_none, marked_same, marked_twice, bit_marked}
+use Rattle.theory.proofs.Bits.{bits_same, bits_whole}
+use Rattle.theory.proofs.Tests.{or_false}
+use Rattle.theory.proofs.Maps.{marked_same, marked_twice, bit_marked}
 use Rattle.theory.proofs.Named.{count_same, count_none}
 use Rattle.theory.proofs.Searches.{none_below_at}
-use Rattle.receiver.specs.Filling.{group_at, named, named_sets, packet_value, run, run_sets, run_value}
+use Rattle.receiver.specs.Filling.{InPart, group_at, named, named_sets, packet_value, run, run_sets, run_value}
 use Rattle.receiver.proofs.Counting.{count_join}
-use Rattle.receiver.proofs.Groups.{room}
 
 -- the first i segments of a packet, into a picture v and a map m: what is in them now, and the count
 abbrev pub PacketSoFar : Part → Picture → List ℕ → List ℕ → ℕ → Picture → List ℕ → ℕ → Type 0
@@ -27,10 +28,10 @@ PacketSoFar t v m q i now map count =
     × (count ≡ count_below (groups t) (named_sets t m q i))
     × (count ≤ i * 65535)
 
-pub packet_begins : (t : Part) (v : Picture) (m q : List ℕ) → ((i : ℕ) → get_or m i 0 < 256) → PacketSoFar t v m q 0 v m 0
-packet_begins t v m q small = (
+pub packet_begins : (t : Part) (v : Picture) (m q : List ℕ) → AllOctets m → PacketSoFar t v m q 0 v m 0
+packet_begins t v m q octets = (
   filled_none t v (λ h _. named_sets t m q 0 h) (packet_value t q) (λ _ _. refl),
-  marked_none m (named t q 0) small (λ _. refl),
+  sym (bits_same (λ k. bit m k || named t q 0 k) (bit m) (length m) (λ k _. or_false (bit m k)) ∙ bits_whole m octets),
   sym (count_none (groups t) (named_sets t m q 0) (λ _ _. refl)),
   omega arith,
 )
@@ -118,23 +119,22 @@ new_only : (b n : Bool) → (b || n) ≡ false → n ≡ false
 new_only true n h = absurd (both_ways true h refl)
 new_only false n h = h
 
--- what putting a segment requires
-pub record SegmentFits (t : Part) (x : Placed) : Type 0 where
-  pub whole : x.groups * (layout_of t.format).octets ≤ length x.octets
-  pub row : x.unit_row ≤ 65535
-  pub inside : x.first_group + x.groups ≤ row_groups t.format
-  pub below : group_at t x.unit_row x.first_group + x.groups ≤ groups t
+-- group i of n, of o octets each, lies in the segment
+room : (i n o size : ℕ) → i < n → n * o ≤ size → i * o + o ≤ size
+room i n o size h k =
+    let most : (i + 1) * o ≤ n * o = mul-le-mul_right o (omega arith) in
+    omega (arith, add-mul i 1 o, one-mul o)
 
 module _ (t : Part) (q : List ℕ) (w : SoundNaming t q) (i : ℕ) (here : i < headers q) (x : Placed) (is : x ≡ segment_at t q i) where
   length_here : length (take (srd_length q i) (drop (data_start q + lengths q i) q)) ≡ srd_length q i
   length_here = simp (length-take, length-drop) (omega (arith, w.segment_inside i here))
 
-  pub segment_fits : SegmentFits t x
-  segment_fits = subst (SegmentFits t) (sym is) (record {
+  pub segment_fits : InPart t x
+  segment_fits = subst (InPart t) (sym is) (record {
     whole = omega (arith, w.whole_segments i here, length_here);
     row = omega (arith, div-le_self (srd_row q i) t.format.kind.rows);
-    inside = w.in_row i here;
-    below = w.in_part i here;
+    in_row = w.in_row i here;
+    in_part = w.in_part i here;
   })
 
   -- the octets of a group that no segment before names

@@ -1,8 +1,8 @@
 -- Which groups a segment and a packet set, and the values that they have for them.
-use Rattle.std.specs.Prelude.{ℕ, ◌+◌, ◌-◌, ◌*◌, Bool, not, ◌&&◌, List, take, drop, nat_le, nat_lt}
-use Rattle.packets.specs.declared.packet.Segment.{Segment}
+use Rattle.std.specs.Prelude.{◌≡◌, ℕ, ◌+◌, ◌-◌, ◌*◌, ◌≤◌, Bool, not, ◌&&◌, List, length, take, drop, nat_le, nat_lt}
+use Rattle.packets.specs.Reading.{Placed}
 use Rattle.theory.specs.Octets.{any_below, bit}
-use Rattle.theory.specs.Formats.{Part, layout_of, row_groups}
+use Rattle.theory.specs.Formats.{Part, layout_of, row_groups, groups}
 use Rattle.theory.specs.Groups.{value_at}
 use Rattle.theory.specs.Taking.{octets_of, segment_names}
 
@@ -11,8 +11,15 @@ abbrev pub group_at : Part → ℕ → ℕ → ℕ
 group_at t u at = u * row_groups t.format + at
 
 -- the number of a segment's first group
-abbrev pub start_of : Part → Segment → ℕ
-start_of t s = group_at t s.unit_row s.first_group
+abbrev pub start_of : Part → Placed → ℕ
+start_of t x = group_at t x.unit_row x.first_group
+
+-- a segment has whole groups, which lie in one unit row and in the part
+pub record InPart (t : Part) (x : Placed) : Type 0 where
+  pub whole : length x.octets ≡ x.groups * (layout_of t.format).octets
+  pub row : x.unit_row ≤ 65535
+  pub in_row : x.first_group + x.groups ≤ row_groups t.format
+  pub in_part : start_of t x + x.groups ≤ groups t
 
 -- the value at position k of one group's octets
 abbrev pub group_value : Part → List ℕ → ℕ → ℕ → ℕ
