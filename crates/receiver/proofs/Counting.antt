@@ -2,7 +2,7 @@
 use Rattle.std.proofs.Common.{◌≡◌, ℕ, zero, suc, ◌+◌, ◌*◌, ◌/◌, ◌%◌, ◌^◌, ◌<◌, ◌≤◌, Bool, true, false, cond, not, eqb, List, length, get_or, take, sym, refl, ap, ◌∙◌, ap₂, inl, inr, arith}
 use lib.Bits.{bit_or}
 use lib.Count.{ones}
-use Rattle.std.specs.Int.{count_zeros, w8}
+use Rattle.std.specs.Int.{count_zeros, w8, w16}
 use Rattle.std.specs.List.{sum_by}
 use Rattle.std.proofs.lemmas.Bool.{cases_order, ne_eqb, eq-eqb, eqb-true}
 use Rattle.std.proofs.lemmas.List.Sums.{sum_by_more}
@@ -44,11 +44,11 @@ count_le f (suc n) = omega (arith, count_le f n, one (f n))
 abbrev clear_below : ℕ → ℕ → ℕ
 clear_below x b = count_below b (λ j. not (eqb ((x / 2 ^ j) % 2) 1))
 
-pub clear_low : (x b : ℕ) → x < 256 → b < 8 → count_zeros w8 (bit_or x ((255 * 2 ^ b) % 256)) ≡ clear_below x b
+pub clear_low : (x b : ℕ) → x < 256 → b ≤ 8 → count_zeros w16 (bit_or x ((65535 * 2 ^ b) % 65536)) ≡ clear_below x b
 unfolding ones
 clear_low x b h k =
-    let test : ℕ → ℕ → Bool = λ y c. eqb (count_zeros w8 (bit_or y ((255 * 2 ^ c) % 256))) (clear_below y c) in
-    eqb-true _ _ (all_below_at (test x) 8 (all_below_at (λ y. all_below 8 (test y)) 256 refl x h) b k)
+    let test : ℕ → ℕ → Bool = λ y c. eqb (count_zeros w16 (bit_or y ((65535 * 2 ^ c) % 65536))) (clear_below y c) in
+    eqb-true _ _ (all_below_at (test x) 9 (all_below_at (λ y. all_below 9 (test y)) 256 refl x h) b (omega arith))
 
 pub clear_octet : (x : ℕ) → x < 256 → count_zeros w8 x ≡ clear_below x 8
 unfolding ones

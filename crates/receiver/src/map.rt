@@ -29,10 +29,10 @@ pub(crate) fn reset(map: &mut [u8], octets: usize)
 
 // How many of an octet's low bits are clear: all bits above them are set first.
 fn clear_low_bits(octet: u8, bits: usize) -> usize
-    requires { bits < 8 }
+    requires { bits ≤ 8 }
     ensures { result ≡ count_below bits (λ j. not ((octet / 2 ^ j) % 2 == 1)) }
 {
-    (octet | u8::MAX << bits).count_zeros() as usize
+    (u16::from(octet) | u16::MAX << bits).count_zeros() as usize
 }
 
 /// How many of the first bits are clear. It goes by octets.
