@@ -10,6 +10,8 @@ mod fields;
 mod headers;
 mod packet;
 mod reader;
+mod segments;
 mod table;
 
 pub use packet::{Packet, Segment};
+pub use segments::Segments;

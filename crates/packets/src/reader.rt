@@ -6,10 +6,12 @@ ghost use Rattle.formats.specs.Meaning.{part_of};
 ghost use Rattle.theory.specs.Naming.{SoundNaming};
 ghost use Rattle.packets.specs.Reading.{reading};
 ghost use Rattle.packets.specs.Carried.{placed, carries, segment_of, outcome};
+ghost use Rattle.packets.specs.Segments.{segments_of, segments_left};
 
 use crate::division::quotient;
 use crate::fields;
 use crate::packet::{Packet, Segment};
+use crate::segments::Segments;
 use crate::table::check;
 use formats::Part;
 use kinds::GroupKind;
@@ -42,6 +44,16 @@ impl<'a> Packet<'a> {
         ensures { result ≡ (carries self.now).count }
     {
         fields::headers(self.octets)
+    }
+
+    /// The segments, in the order of their headers.
+    pub fn iter(&self) -> Segments<'a>
+        ensures { segments_left result ≡ segments_of (carries self.now) }
+    {
+        Segments {
+            packet: *self,
+            index: 0,
+        }
     }
 
     /// A segment, in the order of the headers, from 0 on.
