@@ -1,9 +1,10 @@
 -- The segments of a packet, one after another: what a turn of the loop leaves, and the packet whole.
-use Rattle.std.proofs.Common.{◌≡◌, ℕ, zero, suc, ◌+◌, ◌-◌, ◌*◌, ◌<◌, ◌≤◌, Bool, true, false, cond, not, ◌&&◌, ◌||◌, ltb, leb, List, length, take, drop, Some, None, sym, refl, ap, ◌∙◌, subst, ap₂, inl, inr, div-le_self, add-one, mul-le-mul_right, add-mul, one-mul, arith, lit≤, length-drop, length-take}
+use Rattle.std.proofs.Common.{◌≡◌, ℕ, zero, suc, ◌+◌, ◌-◌, ◌*◌, ◌<◌, ◌≤◌, Bool, true, false, cond, not, ◌&&◌, ◌||◌, ltb, leb, List, [], ◌∷◌, map, length, take, drop, Some, None, sym, refl, ap, ◌∙◌, subst, ap₂, inl, inr, div-le_self, add-one, mul-le-mul_right, add-mul, one-mul, arith, lit≤, length-drop, length-take}
 use Rattle.std.proofs.lemmas.List.{drop-take, take-take, drop-drop}
 use Rattle.std.proofs.lemmas.Bool.{both_ways, cases_order, cond-true, cond-false, and_parts, leb-true, ltb-true, lt-ltb, not-true}
-use Rattle.packets.specs.Reading.{Placed, Carried, carried, segment_at}
-use Rattle.packets.specs.Carried.{segment_of}
+use Rattle.packets.specs.Reading.{Placed, Carried, segment_at}
+use Rattle.packets.specs.Segments.{segments_from}
+use Rattle.std.specs.List.{range_with_len}
 use Rattle.theory.specs.Octets.{AllOctets, bit, any_below, first_from, count_below, marked}
 use Rattle.theory.specs.Formats.{Part, layout_of, groups}
 use Rattle.theory.specs.Pictures.{Picture}
@@ -52,19 +53,30 @@ SegmentPut t now map x now' map' count =
     × (map' ≡ marked map (run s x.groups))
     × (count ≡ count_below (groups t) (run_sets map s x.groups))
 
--- the segment that the packet hands out
-pub handed_out : (t : Part) (q : List ℕ) (w : Carried) (i : ℕ) (x : Placed) → w ≡ carried t q → i < headers q → Some x ≡ segment_of w i
-    → x ≡ segment_at t q i
-handed_out t q w i x ew h e =
-    let there : Some x ≡ Some (segment_at t q i) =
-    e ∙ ap (λ y. segment_of y i) ew ∙ cond-true (ltb i (headers q)) (Some (segment_at t q i)) None (lt-ltb i (headers q) h) in
-    cc
+-- i segments were handed out, and these are left
+pub record HandedOut (w : Carried) (i : ℕ) (left : List Placed) : Type 0 where
+  pub few : i ≤ w.count
+  pub those : left ≡ segments_from w i
 
-pub none_handed_out : (t : Part) (q : List ℕ) (w : Carried) (i : ℕ) → w ≡ carried t q → i < headers q → None ≡ segment_of w i → ⊥
-none_handed_out t q w i ew h e =
-    let there : None ≡ Some (segment_at t q i) =
-    e ∙ ap (λ y. segment_of y i) ew ∙ cond-true (ltb i (headers q)) (Some (segment_at t q i)) None (lt-ltb i (headers q) h) in
-    let z : ◌≡◌ {A = ℕ} 0 1 = cc in omega arith
+-- one more, and none
+pub one_handed_out : (w : Carried) (i : ℕ) (x : Placed) (left left' : List Placed) → HandedOut w i left → left ≡ x ∷ left'
+    → (i < w.count) × (x ≡ w.segment i) × HandedOut w (i + 1) left'
+one_handed_out w i x left left' out e = go (w.count - i) refl (sym out.those ∙ e)
+  where
+    go : (n : ℕ) → w.count - i ≡ n → map w.segment (range_with_len i n) ≡ x ∷ left' → (i < w.count) × (x ≡ w.segment i) × HandedOut w (i + 1) left'
+    go zero h k = cc
+    go (suc n) h k =
+        let one : x ≡ w.segment i = cc in
+        let more : left' ≡ map w.segment (range_with_len (i + 1) n) = cc in
+        let those : n ≡ w.count - (i + 1) = omega arith in
+        (omega arith, one, record { few = omega arith; those = more ∙ ap (λ j. map w.segment (range_with_len (i + 1) j)) those })
+
+pub none_left : (w : Carried) (i : ℕ) (left : List Placed) → HandedOut w i left → left ≡ [] → i ≡ w.count
+none_left w i left out e = go (w.count - i) refl (sym out.those ∙ e)
+  where
+    go : (n : ℕ) → w.count - i ≡ n → map w.segment (range_with_len i n) ≡ [] → i ≡ w.count
+    go zero h k = omega (arith, out.few)
+    go (suc n) h k = cc
 
 -- a search that meets the first number that passes ends there
 first_is : (f : ℕ → Bool) (n a i : ℕ) → a ≤ i → i < a + n → f i ≡ true → ((j : ℕ) → j < i → f j ≡ false) → first_from a n f ≡ i

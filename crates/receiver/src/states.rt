@@ -71,10 +71,8 @@ impl<K: GroupKind> Open<K> {
         self.check(store, map)?;
         let packet = Packet::read(packet, &self.part)?;
         let mut count = 0;
-        for i in 0..packet.segments() {
-            if let Some(segment) = packet.segment(i) {
-                count += put_segment(&self.part, segment, store, map);
-            }
+        for segment in packet.iter() {
+            count += put_segment(&self.part, segment, store, map);
         }
         Ok(count)
     }
