@@ -3,11 +3,8 @@
 ghost use Rattle.std.specs.Prelude.{◌≡◌, ◌≤◌, None};
 ghost use Rattle.formats.specs.Meaning.{part_of};
 ghost use Rattle.packets.specs.Carried.{placed};
-ghost use Rattle.theory.specs.Octets.{marked, count_below};
-ghost use Rattle.theory.specs.Formats.{groups as groups_of};
-ghost use Rattle.theory.specs.Groups.{filled};
 ghost use Rattle.theory.specs.Taking.{survey_refusal};
-ghost use Rattle.receiver.specs.Filling.{InPart, start_of, run, run_sets, run_value};
+ghost use Rattle.receiver.specs.Filling.{GroupsPut, InPart, run, run_value, start_of};
 
 use crate::group::Group;
 use crate::map;
@@ -25,9 +22,7 @@ pub(crate) fn put_segment<K: GroupKind, S: Store>(
 ) -> usize
     requires ready { survey_refusal (part_of K.GroupKind.kind part.now) (S.Store.picture store.old) map.old ≡ None }
     requires inside { InPart (part_of K.GroupKind.kind part.now) (placed segment) }
-    ensures picture { let t = part_of K.GroupKind.kind part.now in let s = start_of t (placed segment.entry) in S.Store.picture store.new ≡ filled t (S.Store.picture store.old) (λ g _. run_sets map.old s segment.entry.groups g) (run_value t segment.entry.octets.now s) }
-    ensures map { let t = part_of K.GroupKind.kind part.now in map.new ≡ marked map.old (run (start_of t (placed segment.entry)) segment.entry.groups) }
-    ensures count { let t = part_of K.GroupKind.kind part.now in result ≡ count_below (groups_of t) (run_sets map.old (start_of t (placed segment.entry)) segment.entry.groups) }
+    ensures put { let t = part_of K.GroupKind.kind part.now in let x = placed segment.entry in GroupsPut t (S.Store.picture store.old) map.old (run (start_of t x) x.groups) (run_value t x.octets (start_of t x)) (S.Store.picture store.new) map.new result }
     ensures few { result ≤ 65535 }
     ensures rest { S.Store.rest store.new ≡ S.Store.rest store.old }
 {

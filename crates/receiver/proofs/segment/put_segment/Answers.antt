@@ -19,7 +19,7 @@ loop-i-init g c =
     record {
       size = cc;
       ahead = rw (← none) (all_ahead x.groups (layout_of t.format).octets (some_octets t v m c.requires.ready) x.octets c.requires.inside.whole _ all);
-      so_far = rw (← none) (segment_begins t v m x.octets (start_of t x) (λ i. (c.type_inv.map i).fits));
+      so_far = rw (← none) (segment_begins t v m x.octets (start_of t x) (λ i _. (c.type_inv.map i).fits));
       rest = refl;
     }
 
@@ -64,7 +64,7 @@ invariant_of-group g c =
 pub put-requires-clause-fits : goal.put-requires-clause-fits
 put-requires-clause-fits g c =
     let t = part_of g.K.GroupKind.kind c.args.part.now in
-    ap (λ v. fits_part v t) c.loop-i.invariant.so_far.0 ∙ store_fits t (g.S.Store.picture c.args.store.now) c.args.map.now c.requires.ready
+    ap (λ v. fits_part v t) c.loop-i.invariant.so_far.0.picture ∙ store_fits t (g.S.Store.picture c.args.store.now) c.args.map.now c.requires.ready
 
 pub put-requires-clause-whole : goal.put-requires-clause-whole
 put-requires-clause-whole g c = c.in-Some.ensures.steps.0.1.1 ∙ c.loop-i.invariant.size
@@ -85,7 +85,7 @@ overflow_add-count g c =
     let s = c.in-Some.ensures.steps in
     let w = c.loop-i.invariant in
     let within : c.loop-i.i-iterator.count < c.args.segment.groups = (group_taken t (placed c.args.segment) c.requires.inside some _ _ _ _ _ w.size w.ahead s.0.1).0 in
-    omega (arith, w.so_far.3)
+    omega (arith, w.so_far.1)
 
 pub loop-i-preserved-then-not-is_set : goal.loop-i-preserved-then-not-is_set
 loop-i-preserved-then-not-is_set g c =
@@ -106,8 +106,8 @@ loop-i-preserved-then-not-is_set g c =
       size = s.0.0 ∙ w.size;
       ahead = rw s.2 taken.2;
       so_far = rw s.2 (segment_puts t v m x.octets (start_of t x) i (g.S.Store.picture c.loop-i.store) c.loop-i.map c.loop-i.count _
-          w.so_far number below (map_long t v m c.requires.ready) _ (g.S.Store.picture c.put.new.store) c.set.new.map (c.loop-i.count + 1) same
-          (sym c.is_set.ensures ∙ c.if-not-is_set.true) c.in-Some.octets.now taken.1 c.put.ensures.picture c.set.ensures refl);
+          w.so_far number below (map_long t v m c.requires.ready) _ (g.S.Store.picture c.put.new.store) c.set.new.map c.in-Some.octets.now same
+          (sym c.is_set.ensures ∙ c.if-not-is_set.true) taken.1 c.put.ensures.picture c.set.ensures);
       rest = c.put.ensures.rest ∙ w.rest;
     }
 
@@ -128,8 +128,7 @@ loop-i-preserved g c =
       size = s.0.0 ∙ w.size;
       ahead = rw s.2 taken.2;
       so_far = rw s.2 (segment_passes t v m x.octets (start_of t x) i (g.S.Store.picture c.loop-i.store) c.loop-i.map c.loop-i.count _
-          w.so_far number below (map_long t v m c.requires.ready) (g.S.Store.picture c.loop-i.store) c.loop-i.map c.loop-i.count
-          (sym c.is_set.ensures ∙ c.if-not-is_set.false) refl refl refl);
+          w.so_far number below (map_long t v m c.requires.ready) (sym c.is_set.ensures ∙ c.if-not-is_set.false));
       rest = w.rest;
     }
 
@@ -146,9 +145,7 @@ returns g c =
     none_ahead x.groups o (some_octets t v m c.requires.ready) x.octets c.requires.inside.whole _ _ w.ahead (omega (arith, s.0.1.0, w.size)) in
     let all = rw last at w.so_far in
     record {
-      picture = all.0;
-      map = all.1;
-      count = all.2;
-      few = omega (arith, all.3, c.requires.inside.in_row, c.row_groups.ensures.value, c.row_groups.ensures.bound);
+      put = all.0;
+      few = omega (arith, all.1, c.requires.inside.in_row, c.row_groups.ensures.value, c.row_groups.ensures.bound);
       rest = w.rest;
     }

@@ -1,7 +1,7 @@
-use Rattle.std.proofs.Common.{◌≡◌, ◌+◌, ◌≤◌, List, [], ◌∷◌, ◌++◌, length, Ok, sym, refl, ap, ◌∙◌, subst, arith, length-append}
+use Rattle.std.proofs.Common.{◌≡◌, ◌+◌, [], ◌∷◌, ◌++◌, length, Ok, sym, refl, ap, ◌∙◌, subst, arith, length-append}
 use Rattle.packets.specs.Carried.{carries, placed}
 use Rattle.packets.specs.Reading.{carried}
-use Rattle.packets.specs.Segments.{segments_left, segments_from, segments_of}
+use Rattle.packets.specs.Segments.{segments_left, segments_of}
 use Rattle.theory.specs.Answers.{answer, is_none}
 use Rattle.theory.specs.Packets.{headers}
 use Rattle.theory.specs.Pictures.{fits_part}
@@ -64,7 +64,7 @@ put_segment-count-requires-clause-ready g c =
     let q = c.args.packet.now in
     let ready = passes (survey_refusal t v m) c.in_ok-check.ensures.answer in
     let w = c.loop-segment.invariant in
-    ready_still t v m ready (g.S.Store.picture c.loop-segment.store) c.loop-segment.map (ap (λ y. fits_part y t) w.so_far.0) c.loop-segment.auto.map
+    ready_still t v m ready (g.S.Store.picture c.loop-segment.store) c.loop-segment.map (ap (λ y. fits_part y t) w.so_far.0.picture) c.loop-segment.auto.map
 
 pub put_segment-count-requires-clause-inside : goal.put_segment-count-requires-clause-inside
 put_segment-count-requires-clause-inside g c =
@@ -76,7 +76,7 @@ put_segment-count-requires-clause-inside g c =
 pub overflow_add-count : goal.overflow_add-count
 overflow_add-count g c =
     let w = c.loop-segment.invariant in
-    omega (arith, w.so_far.3, w.out.few, few_headers c.args.packet.now, c.put_segment-count.ensures.few)
+    omega (arith, w.so_far.1, w.out.few, few_headers c.args.packet.now, c.put_segment-count.ensures.few)
 
 pub loop-segment-preserved : goal.loop-segment-preserved
 loop-segment-preserved g c =
@@ -94,8 +94,7 @@ loop-segment-preserved g c =
       out = subst (λ i. HandedOut (carried t q) i (segments_left c.next.new.self)) more next.2;
       so_far = subst (λ i. PacketSoFar t v m q i (g.S.Store.picture put.new.store) put.new.map (c.loop-segment.count + put.result)) more
           (packet_takes t q (c.in_ok-packet.ensures.sound refl) _ next.0 x next.1 v m (map_long t v m ready) (g.S.Store.picture c.loop-segment.store)
-          c.loop-segment.map c.loop-segment.count w.so_far (g.S.Store.picture put.new.store) put.new.map put.result
-          (put.ensures.picture, put.ensures.map, put.ensures.count) put.ensures.few);
+          c.loop-segment.map c.loop-segment.count w.so_far (g.S.Store.picture put.new.store) put.new.map put.result put.ensures.put put.ensures.few);
       rest = put.ensures.rest ∙ w.rest;
     }
 
