@@ -18,47 +18,70 @@ run_none s g = grind (arith, nat_tests)
 run_more : (s i n g : ℕ) → n ≡ s + i → run s (i + 1) g ≡ (eqb g n || run s i g)
 run_more s i n g e = grind (arith, nat_tests)
 
--- the octets of n groups of o octets each, group after group
--- the first i of them are behind, and these octets are ahead
-pub record Ahead (n o : ℕ) (os : List ℕ) (i : ℕ) (rest : List ℕ) : Type 0 where
-  pub few : i ≤ n
-  pub octets : rest ≡ drop (i * o) os
+-- group after group of o octets is taken off a segment: the first i are behind, and these octets are ahead
+pub record Ahead (t : Part) (m : List ℕ) (x : Placed) (i o : ℕ) (rest : List ℕ) : Type 0 where
+  pub inside : InPart t x
+  pub mapped : groups t ≤ 8 * length m
+  pub some : 0 < o
+  pub size : o ≡ (layout_of t.format).octets
+  pub few : i ≤ x.groups
+  pub octets : rest ≡ drop (i * o) x.octets
 
-module _ (n o : ℕ) (some : 0 < o) (os : List ℕ) (whole : length os ≡ n * o) where
-  pub all_ahead : (rest : List ℕ) → rest ≡ os → Ahead n o os 0 rest
-  all_ahead rest e = record { few = omega arith; octets = e ∙ ap (λ k. drop k os) (sym (zero-mul o)) }
+left : {t : Part} {m : List ℕ} {x : Placed} {i o : ℕ} {rest : List ℕ} → Ahead t m x i o rest → length rest ≡ x.groups * o - i * o
+left {x = x} {i = i} {o = o} w =
+    ap length w.octets ∙ length-drop (i * o) x.octets ∙ ap (λ k. k - i * o) (w.inside.whole ∙ ap (λ k. x.groups * k) (sym w.size))
 
-  pub one_taken : (i : ℕ) (x rest rest' : List ℕ) → Ahead n o os i rest → rest ≡ x ++ rest' → length x ≡ o
-      → (i < n) × (x ≡ take o (drop (i * o) os)) × Ahead n o os (i + 1) rest'
-  one_taken i x rest rest' ahead e size =
-      let long : o ≤ length rest = omega (arith, size, simp length-append at (ap length e)) in
-      let left : length rest ≡ n * o - i * o = ap length ahead.octets ∙ length-drop (i * o) os ∙ ap (λ k. k - i * o) whole in
-      let next : i * o + o ≡ (i + 1) * o = omega (arith, add-mul i 1 o, one-mul o) in
-      let more : i + 1 ≤ n = le_of_mul-le-mul_right {k = o} (omega arith) some in (
-        omega arith,
-        sym (take_at x rest' o size) ∙ ap (take o) (sym e ∙ ahead.octets),
-        record {
-          few = more;
-          octets = sym (drop_at x rest' o size) ∙ ap (drop o) (sym e ∙ ahead.octets) ∙ drop-drop o (i * o) os ∙ ap (λ k. drop k os) next;
-        },
-      )
+pub all_ahead : {t : Part} {m : List ℕ} {x : Placed} {o : ℕ} {rest : List ℕ} → InPart t x → groups t ≤ 8 * length m → 0 < (layout_of t.format).octets
+    → o ≡ (layout_of t.format).octets → rest ≡ x.octets → Ahead t m x 0 o rest
+all_ahead {x = x} {o = o} inside mapped some size all = record {
+  inside = inside;
+  mapped = mapped;
+  some = omega arith;
+  size = size;
+  few = omega arith;
+  octets = all ∙ ap (λ k. drop k x.octets) (sym (zero-mul o));
+}
 
-  pub none_ahead : (i : ℕ) (rest : List ℕ) → Ahead n o os i rest → length rest < o → i ≡ n
-  none_ahead i rest ahead short =
-      let left : length rest ≡ n * o - i * o = ap length ahead.octets ∙ length-drop (i * o) os ∙ ap (λ k. k - i * o) whole in
-      let h : i * o ≤ n * o = mul-le-mul_right o ahead.few in
-      let k : n * o < (i + 1) * o = omega (arith, add-mul i 1 o, one-mul o) in
-      let m : n < i + 1 = lt_of_mul-lt-mul_right o k in
-      omega (arith, ahead.few)
+-- a turn takes group j off, which is the next one
+pub record Turn (t : Part) (m : List ℕ) (x : Placed) (i j : ℕ) (octets : List ℕ) (i' o' : ℕ) (rest' : List ℕ) : Type 0 where
+  pub same : j ≡ i
+  pub within : i < x.groups
+  pub below : start_of t x + i < groups t
+  pub whole : length octets ≡ (layout_of t.format).octets
+  pub piece : octets ≡ take (layout_of t.format).octets (drop (i * (layout_of t.format).octets) x.octets)
+  pub next : Ahead t m x i' o' rest'
 
--- one more group of a segment
-module _ (t : Part) (x : Placed) (inside : InPart t x) (some : 0 < (layout_of t.format).octets) where
-  pub group_taken : (i size : ℕ) (octets rest rest' : List ℕ) → size ≡ (layout_of t.format).octets
-      → Ahead x.groups (layout_of t.format).octets x.octets i rest → (rest ≡ octets ++ rest') × (length octets ≡ size)
-      → (i < x.groups) × (octets ≡ take (layout_of t.format).octets (drop (i * (layout_of t.format).octets) x.octets))
-      × Ahead x.groups (layout_of t.format).octets x.octets (i + 1) rest'
-  group_taken i size octets rest rest' e ahead cut =
-      one_taken x.groups (layout_of t.format).octets some x.octets inside.whole i octets rest rest' ahead cut.0 (cut.1 ∙ e)
+pub group_taken : {t : Part} {m : List ℕ} {x : Placed} {i j i' o o' : ℕ} {octets rest rest' : List ℕ} → Ahead t m x i o rest
+    → o' ≡ o → (rest ≡ octets ++ rest') × (length octets ≡ o) → j ≡ i → i' ≡ i + 1 → Turn t m x i j octets i' o' rest'
+group_taken {x = x} {i = i} {o = o} {octets = octets} {rest' = rest'} w eo cut ej ei =
+    let long : o ≤ length (octets ++ rest') = omega (arith, cut.1, length-append octets rest') in
+    let room : length (octets ++ rest') ≡ x.groups * o - i * o = ap length (sym cut.0) ∙ left w in
+    let next : i * o + o ≡ (i + 1) * o = omega (arith, add-mul i 1 o, one-mul o) in
+    let few : i + 1 ≤ x.groups = let h : (i + 1) * o ≤ x.groups * o = omega (arith, w.some) in le_of_mul-le-mul_right h w.some in
+    let now : octets ++ rest' ≡ drop (i * o) x.octets = sym cut.0 ∙ w.octets in
+    record {
+      same = ej;
+      within = omega arith;
+      below = omega (arith, w.inside.in_part);
+      whole = cut.1 ∙ w.size;
+      piece = sym (take_at octets rest' o cut.1) ∙ ap (take o) now ∙ ap (λ k. take k (drop (i * k) x.octets)) w.size;
+      next = record {
+        inside = w.inside;
+        mapped = w.mapped;
+        some = omega (arith, w.some);
+        size = eo ∙ w.size;
+        few = omega arith;
+        octets = sym (drop_at octets rest' o cut.1) ∙ ap (drop o) now ∙ drop-drop o (i * o) x.octets
+            ∙ ap (λ k. drop k x.octets) (next ∙ sym (ap₂ (λ k n. k * n) ei eo));
+      };
+    }
+
+pub none_ahead : {t : Part} {m : List ℕ} {x : Placed} {i o : ℕ} {rest : List ℕ} → Ahead t m x i o rest → length rest < o → i ≡ x.groups
+none_ahead {x = x} {i = i} {o = o} w short =
+    let h : i * o ≤ x.groups * o = mul-le-mul_right o w.few in
+    let k : x.groups * o < (i + 1) * o = omega (arith, left w, add-mul i 1 o, one-mul o) in
+    let more : x.groups < i + 1 = lt_of_mul-lt-mul_right o k in
+    omega (arith, w.few)
 
 -- the number of group i, as the code has it
 pub number_is : (t : Part) (x : Placed) (r i j : ℕ) → r ≡ row_groups t.format → j ≡ i → x.unit_row * r + x.first_group + j ≡ start_of t x + i
