@@ -1,12 +1,12 @@
 -- From the checks of a call to the rows of the refusal table.
-use Rattle.std.proofs.Common.{◌≡◌, ℕ, ◌*◌, ◌≤◌, Bool, true, false, cond, not, ◌||◌, ltb, List, [], ◌∷◌, length, IsErrAnd, Some, None, Ok, Err, Option, Result, sym, refl, ap, ◌∙◌, arith}
-use Rattle.std.proofs.lemmas.Bool.{ltb-false, leb-true}
+use Rattle.std.proofs.Common.{◌≡◌, ℕ, ◌≤◌, Bool, true, false, cond, not, ◌||◌, ltb, List, [], ◌∷◌, length, IsErrAnd, Some, None, Ok, Err, Option, Result, sym, refl, ap, ◌∙◌}
+use Rattle.std.proofs.lemmas.Bool.{leb-true}
 use Rattle.formats.specs.Meaning.{format_check, part_check}
 use Rattle.refusals.specs.declared.Refusal.{Refusal}
 use Rattle.refusals.specs.Numbers.{number_of, numbered}
 use Rattle.stores.specs.Keeping.{IfRefused}
 use Rattle.theory.specs.Answers.{first_row, is_none, unless, verdict}
-use Rattle.theory.specs.Formats.{Part, groups, map_octets, lawful_format, lawful_field}
+use Rattle.theory.specs.Formats.{Part, map_octets, lawful_format, lawful_field}
 use Rattle.theory.specs.Pictures.{Picture, fits_part}
 use Rattle.theory.specs.Taking.{open_refusal, map_after_opening, opened_map, count_refusal, survey_refusal}
 use Rattle.theory.proofs.Steps.{opening_allowed}
@@ -24,10 +24,10 @@ kept_on e (Err y) b p = p
 -- an answer tells its row, or that there is none
 pub no_row : {X : Type 0} (o : Option ℕ) (x y : X) → Ok y ≡ unless o x → (o ≡ None) × (y ≡ x)
 no_row None x y e = (refl, let z : y ≡ x = cc in z)
-no_row (Some row) x y e = absurd (let z : ◌≡◌ {A = ℕ} 0 1 = cc in omega arith)
+no_row (Some row) x y e = cc
 
 pub row_of : {X : Type 0} (o : Option ℕ) (x : X) (n : ℕ) → Err n ≡ unless o x → o ≡ Some n
-row_of None x n e = absurd (let z : ◌≡◌ {A = ℕ} 0 1 = cc in omega arith)
+row_of None x n e = cc
 row_of (Some row) x n e = let z : row ≡ n = cc in ap Some z
 
 pub passes : (o : Option ℕ) → Ok tt ≡ verdict o → o ≡ None
@@ -44,9 +44,6 @@ format_said l = cond l (Ok tt) (Err 4)
 abbrev part_said : Bool → Bool → Verdict
 part_said l f = cond l (cond f (Ok tt) (Err 5)) (Err 4)
 
-abbrev length_said : Bool → Verdict
-length_said s = cond s (Err 6) (Ok tt)
-
 abbrev two_rows : Bool → Bool → Option ℕ
 two_rows l s = first_row ((not l, 4) ∷ (s, 6) ∷ [])
 
@@ -57,7 +54,7 @@ format_first : (l s : Bool) (n : ℕ) → Err n ≡ format_said l → Err n ≡ 
 format_first true s n e = cc
 format_first false s n e = e
 
-then_map : (l s : Bool) → Ok tt ≡ format_said l → length_said s ≡ verdict (two_rows l s)
+then_map : (l s : Bool) → Ok tt ≡ format_said l → cond s (Err 6) (Ok tt) ≡ verdict (two_rows l s)
 then_map true true e = refl
 then_map true false e = refl
 then_map false s e = cc
@@ -68,56 +65,32 @@ map_first true true true n e = e
 map_first true true false n e = e
 map_first true false k n e = cc
 
-then_store : (l s k : Bool) → Ok tt ≡ verdict (two_rows l s)
-    → cond k (Ok tt) (Err 6) ≡ verdict (two_rows l (not k || s))
-then_store false s k e = cc
-then_store true true k e = cc
-then_store true false true e = refl
-then_store true false false e = refl
+then_store : (l s k : Bool) → Ok tt ≡ verdict (two_rows l s) → k ≡ false → Err 6 ≡ verdict (two_rows l (not k || s))
+then_store false s k e h = cc
+then_store true s true e h = cc
+then_store true s false e h = refl
 
-part_first : (l f s : Bool) (n : ℕ) → Err n ≡ part_said l f
-    → Err n ≡ verdict (three_rows l f s)
+part_first : (l f s : Bool) (n : ℕ) → Err n ≡ part_said l f → Err n ≡ verdict (three_rows l f s)
 part_first true true s n e = cc
 part_first true false s n e = e
 part_first false f s n e = e
 
-then_length : (l f s : Bool) → Ok tt ≡ part_said l f
-    → length_said s ≡ verdict (three_rows l f s)
-then_length true true true e = refl
-then_length true true false e = refl
-then_length true false s e = cc
-then_length false f s e = cc
-
-long_enough : (l s : Bool) → two_rows l s ≡ None → s ≡ false
-long_enough l false e = refl
-long_enough true true e = cc
-long_enough false true e = cc
-
 module _ (t : Part) (m : List ℕ) where
+  pub part_refused : (n : ℕ) → Err n ≡ part_check t → Err n ≡ verdict (open_refusal t m)
+  part_refused = part_first (lawful_format t.format) (lawful_field t.format t.field) (ltb (length m) (map_octets t))
+
   pub format_refused : (n : ℕ) → Err n ≡ format_check t.format → Err n ≡ verdict (count_refusal t m)
   format_refused = format_first (lawful_format t.format) (ltb (length m) (map_octets t))
 
   pub map_checked : Ok tt ≡ format_check t.format → length_check t m ≡ verdict (count_refusal t m)
   map_checked = then_map (lawful_format t.format) (ltb (length m) (map_octets t))
 
-  pub part_refused : (n : ℕ) → Err n ≡ part_check t → Err n ≡ verdict (open_refusal t m)
-  part_refused = part_first (lawful_format t.format) (lawful_field t.format t.field) (ltb (length m) (map_octets t))
-
-  pub part_checked : Ok tt ≡ part_check t → length_check t m ≡ verdict (open_refusal t m)
-  part_checked = then_length (lawful_format t.format) (lawful_field t.format t.field) (ltb (length m) (map_octets t))
-
-  pub bits_there : count_refusal t m ≡ None → groups t ≤ 8 * length m
-  bits_there e =
-      let h : map_octets t ≤ length m = ltb-false (length m) (map_octets t) (long_enough (lawful_format t.format) (ltb (length m) (map_octets t)) e) in
-      omega arith
-
   module _ (v : Picture) where
     pub map_refused : (n : ℕ) → Err n ≡ verdict (count_refusal t m) → Err n ≡ verdict (survey_refusal t v m)
     map_refused = map_first (lawful_format t.format) (ltb (length m) (map_octets t)) (fits_part v t)
 
-    pub store_checked : (b : Bool) → Ok tt ≡ verdict (count_refusal t m) → b ≡ fits_part v t → cond b (Ok tt) (Err 6) ≡ verdict (survey_refusal t v m)
-    store_checked b e s =
-        ap (λ x. cond x (Ok tt) (Err 6)) s ∙ then_store (lawful_format t.format) (ltb (length m) (map_octets t)) (fits_part v t) e
+    pub store_refused : Ok tt ≡ verdict (count_refusal t m) → fits_part v t ≡ false → Err 6 ≡ verdict (survey_refusal t v m)
+    store_refused = then_store (lawful_format t.format) (ltb (length m) (map_octets t)) (fits_part v t)
 
   pub open_refused : (n : ℕ) → Err n ≡ verdict (open_refusal t m) → (Err n ≡ opening t m) × (m ≡ map_after_opening t m)
   open_refused n e =

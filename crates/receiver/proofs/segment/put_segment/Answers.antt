@@ -1,7 +1,7 @@
-use Rattle.std.proofs.Common.{◌≡◌, ◌+◌, ◌*◌, sym, refl, ap, ◌∙◌, mul-le-mul, zero-mul, arith, drop}
+use Rattle.std.proofs.Common.{◌≡◌, ◌+◌, ◌*◌, sym, refl, ap, ◌∙◌, mul-le-mul, arith}
 use Rattle.formats.specs.Meaning.{part_of}
 use Rattle.packets.specs.Carried.{placed}
-use Rattle.theory.specs.Formats.{layout_of, row_groups, groups}
+use Rattle.theory.specs.Formats.{layout_of, row_groups}
 use Rattle.theory.specs.Pictures.{fits_part}
 use Rattle.receiver.specs.Filling.{start_of}
 use Rattle.receiver.proofs.Groups.{all_ahead, group_taken, none_ahead, number_is, segment_begins, segment_puts, segment_passes}

@@ -1,6 +1,6 @@
-use Rattle.std.proofs.Common.{true, false, sym, ◌∙◌}
+use Rattle.std.proofs.Common.{sym, ◌∙◌}
 use Rattle.receiver.specs.Opening.{part_open}
-use Rattle.receiver.proofs.Checks.{handed_on, map_refused, store_checked}
+use Rattle.receiver.proofs.Checks.{handed_on, map_refused, store_refused}
 use Rattle.receiver.proofs.states.Open.check.Goals as goal
 
 pub returns-in_err-check_map-clause-answer : goal.returns-in_err-check_map-clause-answer
@@ -10,10 +10,5 @@ returns-in_err-check_map-clause-answer g c =
 
 pub returns-then-not-fits-clause-answer : goal.returns-then-not-fits-clause-answer
 returns-then-not-fits-clause-answer g c =
-    store_checked (part_open g.K.GroupKind.kind c.args.self.now) c.args.map.now (g.S.Store.picture c.args.store.now) false
-    c.in_ok-check_map.ensures.answer (sym c.if-not-fits.true ∙ c.fits.ensures)
-
-pub returns-clause-answer : goal.returns-clause-answer
-returns-clause-answer g c =
-    store_checked (part_open g.K.GroupKind.kind c.args.self.now) c.args.map.now (g.S.Store.picture c.args.store.now) true
-    c.in_ok-check_map.ensures.answer (sym c.if-not-fits.false ∙ c.fits.ensures)
+    store_refused (part_open g.K.GroupKind.kind c.args.self.now) c.args.map.now (g.S.Store.picture c.args.store.now)
+    c.in_ok-check_map.ensures.answer (sym c.fits.ensures ∙ c.if-not-fits.true)
