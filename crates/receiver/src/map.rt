@@ -1,4 +1,5 @@
 //! The arrival map: a bit for each group, set where the group has arrived.
+//! Functions of the octets, not methods: counting lends them shared and taking lends them mutable, so a struct would be needed twice.
 
 ghost use Rattle.std.specs.Prelude.{◌≡◌, ℕ, ◌*◌, ◌/◌, ◌%◌, ◌^◌, ◌<◌, ◌≤◌, not, ◌++◌, length, drop, slice_set, replicate, ◌==◌, nat_eq};
 ghost use Rattle.theory.specs.Octets.{bit, marked, count_below};

@@ -14,6 +14,7 @@ use packets::Segment;
 use stores::Store;
 
 /// Puts the groups of a segment whose bit is clear, and sets their bits. Returns how many these are.
+/// Store and map are lent one by one, as the callers of `take` lend them: a struct of both would be made and taken apart for this call.
 pub(crate) fn put_segment<K: GroupKind, S: Store>(
     part: &Part<K>,
     segment: Segment,
