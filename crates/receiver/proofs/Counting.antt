@@ -1,13 +1,15 @@
--- Counts below a number, and the ones of an octet.
-use Rattle.std.proofs.Common.{◌≡◌, ℕ, zero, suc, ◌+◌, ◌-◌, ◌*◌, ◌/◌, ◌%◌, ◌^◌, ◌<◌, ◌≤◌, Bool, true, false, cond, not, eqb, List, get_or, sym, refl, ap, ◌∙◌, ap₂, inl, inr, arith}
-use native.Mathlib.Nat.{mod-one}
-use lib.Count.{ones, ones_cat}
-use lib.Bits.{bit_and}
-use Rattle.std.proofs.lemmas.Nat.{mod_below, pow_pos, mod-pow-add, and_mask, one_shl}
-use Rattle.std.proofs.lemmas.Bool.{cases_order, ne_eqb, eq-eqb}
-use Rattle.theory.specs.Octets.{bit, count_below}
+-- Counts below a number, and the clear bits of octets.
+use Rattle.std.proofs.Common.{◌≡◌, ℕ, zero, suc, ◌+◌, ◌*◌, ◌/◌, ◌%◌, ◌^◌, ◌<◌, ◌≤◌, Bool, true, false, cond, not, eqb, List, length, get_or, take, sym, refl, ap, ◌∙◌, ap₂, inl, inr, arith}
+use lib.Bits.{bit_or}
+use lib.Count.{ones}
+use Rattle.std.specs.Int.{count_zeros, w8, w16}
+use Rattle.std.specs.List.{sum_by}
+use Rattle.std.proofs.lemmas.Bool.{cases_order, ne_eqb, eq-eqb, eqb-true}
+use Rattle.std.proofs.lemmas.List.Sums.{sum_by_more}
+use Rattle.theory.specs.Octets.{AllOctets, bit, count_below, all_below}
 use Rattle.theory.proofs.Bits.{bit_at}
 use Rattle.theory.proofs.Named.{count_same, count_none}
+use Rattle.theory.proofs.Searches.{all_below_at}
 
 -- what passes in one of two ways
 pub count_join : (n : ℕ) (f g e : ℕ → Bool) → ((k : ℕ) → k < n → cond (e k) 1 0 ≡ cond (f k) 1 0 + cond (g k) 1 0)
@@ -30,58 +32,49 @@ count_more f a (suc n) =
     let e : a + suc n ≡ suc (a + n) = omega arith in
     ap (λ x. count_below x f) e ∙ omega (arith, count_more f a n)
 
-one_way : (b : Bool) → cond (not b) 1 0 + cond b 1 0 ≡ 1
-one_way true = refl
-one_way false = refl
-
--- those that pass, and those that do not
-pub count_not : (f : ℕ → Bool) (n : ℕ) → count_below n (λ j. not (f j)) + count_below n f ≡ n
-count_not f zero = refl
-count_not f (suc n) = omega (arith, count_not f n, one_way (f n))
-
 pub count_le : (f : ℕ → Bool) (n : ℕ) → count_below n f ≤ n
-count_le f n = omega (arith, count_not f n)
+count_le f zero = omega arith
+count_le f (suc n) = omega (arith, count_le f n, one (f n))
+  where
+    one : (b : Bool) → cond b 1 0 ≤ 1
+    one true = omega arith
+    one false = omega arith
 
-one_bit : (y : ℕ) → y < 2 → ones y ≡ cond (eqb y 1) 1 0
+-- the clear ones of an octet's bits below b: what the code counts, tested for every octet and every b
+abbrev clear_below : ℕ → ℕ → ℕ
+clear_below x b = count_below b (λ j. not (eqb ((x / 2 ^ j) % 2) 1))
+
+pub clear_low : (x b : ℕ) → x < 256 → b ≤ 8 → count_zeros w16 (bit_or x ((65535 * 2 ^ b) % 65536)) ≡ clear_below x b
 unfolding ones
-one_bit zero h = refl
-one_bit (suc zero) h = refl
-one_bit (suc (suc y)) h = absurd (omega arith)
+clear_low x b h k =
+    let test : ℕ → ℕ → Bool = λ y c. eqb (count_zeros w16 (bit_or y ((65535 * 2 ^ c) % 65536))) (clear_below y c) in
+    eqb-true _ _ (all_below_at (test x) 9 (all_below_at (λ y. all_below 9 (test y)) 256 refl x h) b (omega arith))
 
--- the ones among a number's low bits
-pub ones_low : (x n : ℕ) → ones (x % 2 ^ n) ≡ count_below n (λ j. eqb ((x / 2 ^ j) % 2) 1)
+pub clear_octet : (x : ℕ) → x < 256 → count_zeros w8 x ≡ clear_below x 8
 unfolding ones
-ones_low x zero = ap ones (mod-one x)
-ones_low x (suc n) =
-    let e : 1 + n ≡ suc n = omega arith in
-    let y : ℕ = (x / 2 ^ n) % 2 in
-    let split : x % 2 ^ suc n ≡ y * 2 ^ n + x % 2 ^ n = ap (λ k. x % 2 ^ k) (sym e) ∙ mod-pow-add x 1 n in
-    ap ones split ∙ ones_cat n y (x % 2 ^ n) (mod_below x (2 ^ n) (pow_pos n))
-    ∙ omega (arith, one_bit y (omega arith), ones_low x n)
+clear_octet x h = eqb-true _ _ (all_below_at (λ y. eqb (count_zeros w8 y) (clear_below y 8)) 256 refl x h)
 
--- the clear bits of octet i, or of its first n bits, behind those of the octets before it
-pub octet_more : (m : List ℕ) (i n x count more : ℕ) → n ≤ 8 → x ≡ get_or m i 0 → count ≡ count_below (8 * i) (λ k. not (bit m k))
-    → more ≡ count_below n (λ j. not (eqb ((x / 2 ^ j) % 2) 1))
-    → (count + more ≡ count_below (8 * i + n) (λ k. not (bit m k))) × (count + more ≤ 8 * i + n)
-octet_more m i n x count more h ex ec em =
-    let f : ℕ → Bool = λ k. not (bit m k) in
-    let all : count + more ≡ count_below (8 * i + n) f =
-    ap₂ (λ a b. a + b) ec (em ∙ ap (λ y. count_below n (λ j. not (eqb ((y / 2 ^ j) % 2) 1))) ex
-    ∙ count_same n (λ j. not (eqb ((get_or m i 0 / 2 ^ j) % 2) 1)) (λ j. f (8 * i + j)) (λ j l. ap not (bit_at m i j (omega arith))))
-    ∙ sym (count_more f (8 * i) n) in
-    (all, omega (arith, count_le f (8 * i + n)))
+-- the clear bits of the first n octets and of the b bits behind them
+module _ (m : List ℕ) (octets : AllOctets m) where
+  behind : (n b : ℕ) → b ≤ 8 → clear_below (get_or m n 0) b ≡ count_below b (λ j. not (bit m (8 * n + j)))
+  behind n b h =
+      count_same b (λ j. not (eqb ((get_or m n 0 / 2 ^ j) % 2) 1)) (λ j. not (bit m (8 * n + j))) (λ j l. ap not (bit_at m n j (omega arith)))
 
--- the low bits of an octet, as masked; they are no more than the mask has
-masked_low : (x y b : ℕ) → b ≤ 8 → y ≡ x → bit_and y ((1 * 2 ^ b) % 65536 - 1) ≡ x % 2 ^ b
-masked_low x y b h e = ap₂ (λ z n. bit_and z (n - 1)) e (one_shl b 16 (omega arith)) ∙ and_mask x b
+  pub clear_octets : (n : ℕ) → n ≤ length m → sum_by (count_zeros w8) (take n m) ≡ count_below (8 * n) (λ k. not (bit m k))
+  clear_octets zero h = refl
+  clear_octets (suc n) h =
+      let o : suc n ≡ n + 1 = omega arith in
+      let e : 8 * n + 8 ≡ 8 * suc n = omega arith in
+      ap (λ x. sum_by (count_zeros w8) (take x m)) o
+      ∙ sum_by_more (count_zeros w8) m n 0 (omega arith)
+      ∙ ap₂ (λ a b. a + b) (clear_octets n (omega arith)) (clear_octet (get_or m n 0) (octets n (omega arith)) ∙ behind n 8 (omega arith))
+      ∙ sym (count_more (λ k. not (bit m k)) (8 * n) 8)
+      ∙ ap (λ x. count_below x (λ k. not (bit m k))) e
 
-pub low_few : (x y b : ℕ) → b ≤ 8 → y ≡ x → ones (bit_and y ((1 * 2 ^ b) % 65536 - 1)) ≤ b
-low_few x y b h e =
-    let f : ℕ → Bool = λ j. eqb ((x / 2 ^ j) % 2) 1 in
-    omega (arith, ap ones (masked_low x y b h e), ones_low x b, count_le f b)
-
--- the low bits that are clear, as masked and counted
-pub clear_low : (x y b : ℕ) → b ≤ 8 → y ≡ x → b - ones (bit_and y ((1 * 2 ^ b) % 65536 - 1)) ≡ count_below b (λ j. not (eqb ((x / 2 ^ j) % 2) 1))
-clear_low x y b h e =
-    let f : ℕ → Bool = λ j. eqb ((x / 2 ^ j) % 2) 1 in
-    omega (arith, ap ones (masked_low x y b h e), ones_low x b, count_not f b)
+  pub clear_bits : (bits x a b : ℕ) → bits / 8 ≤ length m → x ≡ get_or m (bits / 8) 0 → a ≡ sum_by (count_zeros w8) (take (bits / 8) m)
+      → b ≡ clear_below x (bits % 8) → a + b ≡ count_below bits (λ k. not (bit m k))
+  clear_bits bits x a b h ex ea eb =
+      let e : 8 * (bits / 8) + bits % 8 ≡ bits = omega arith in
+      ap₂ (λ y z. y + z) (ea ∙ clear_octets (bits / 8) h) (eb ∙ ap (λ y. clear_below y (bits % 8)) ex ∙ behind (bits / 8) (bits % 8) (omega arith))
+      ∙ sym (count_more (λ k. not (bit m k)) (8 * (bits / 8)) (bits % 8))
+      ∙ ap (λ y. count_below y (λ k. not (bit m k))) e

@@ -2,6 +2,7 @@ pub mod Checks
 pub mod Counting
 pub mod Groups
 pub mod Offers
+pub mod Puts
 pub mod Samples
 pub mod Segments
 pub mod Spots

@@ -17,7 +17,7 @@ earlier_row : (l s : Bool) (o : Option ℕ) (n : ℕ) → first_row ((not l, 4) 
     → cond (not l) (Some 4) (cond s (Some 6) o) ≡ Some n
 earlier_row false s o n e = e
 earlier_row true true o n e = e
-earlier_row true false o n e = absurd (let z : ◌≡◌ {A = ℕ} 0 1 = cc in omega arith)
+earlier_row true false o n e = cc
 
 module _ (t : Part) (v : Picture) (m q : List ℕ) where
   -- a refused offer answers its row, and nothing changes
@@ -60,6 +60,11 @@ module _ (t : Part) (v : Picture) (m : List ℕ) (ready : survey_refusal t v m �
 
   pub map_long : groups t ≤ 8 * length m
   map_long = let h : map_octets t ≤ length m = ltb-false (length m) (map_octets t) six.1 in omega arith
+
+  -- they still do, when samples and bits were put
+  pub ready_still : (v' : Picture) (m' : List ℕ) → fits_part v' t ≡ fits_part v t → length m' ≡ length m → survey_refusal t v' m' ≡ None
+  ready_still v' m' fit long =
+      ap₂ (λ b n. first_row ((not (lawful_format t.format), 4) ∷ (not b || ltb n (map_octets t), 6) ∷ [])) fit long ∙ ready
 
   module _ (q : List ℕ) where
     -- the packet's rows alone are left

@@ -1,39 +1,30 @@
 -- The segments of a packet, one after another: what a turn of the loop leaves, and the packet whole.
-use Rattle.std.proofs.Common.{◌≡◌, ℕ, zero, suc, ◌+◌, ◌-◌, ◌*◌, ◌<◌, ◌≤◌, Bool, true, false, cond, not, ◌&&◌, ◌||◌, ltb, leb, List, length, get_or, take, drop, Some, None, sym, refl, ap, ◌∙◌, subst, ap₂, inl, inr, div-le_self, add-one, arith, lit≤, length-drop, length-take}
+use Rattle.std.proofs.Common.{◌≡◌, ℕ, zero, suc, ◌+◌, ◌-◌, ◌*◌, ◌<◌, ◌≤◌, Bool, true, false, cond, not, ◌&&◌, ◌||◌, ltb, leb, List, [], ◌∷◌, map, length, take, drop, sym, refl, ap, ◌∙◌, subst, inl, inr, div-le_self, add-one, mul-le-mul_right, add-mul, one-mul, arith, lit≤, length-drop, length-take}
 use Rattle.std.proofs.lemmas.List.{drop-take, take-take, drop-drop}
-use Rattle.std.proofs.lemmas.Bool.{both_ways, cases_order, cond-true, cond-false, and_parts, leb-true, ltb-true, lt-ltb, not-true}
-use Rattle.packets.specs.Reading.{Placed, Carried, carried, segment_at}
-use Rattle.packets.specs.Carried.{segment_of}
-use Rattle.theory.specs.Octets.{bit, any_below, first_from, count_below, marked}
-use Rattle.theory.specs.Formats.{Part, layout_of, row_groups, groups}
+use Rattle.std.proofs.lemmas.Bool.{both_ways, cases_order, cond-true, cond-false, and_parts, leb-true, ltb-true}
+use Rattle.packets.specs.Reading.{Placed, Carried, segment_at}
+use Rattle.packets.specs.Segments.{segments_from}
+use Rattle.std.specs.List.{range_with_len}
+use Rattle.theory.specs.Octets.{AllOctets, bit, any_below, first_from}
+use Rattle.theory.specs.Formats.{Part, layout_of, groups}
 use Rattle.theory.specs.Pictures.{Picture}
-use Rattle.theory.specs.Groups.{filled, value_at, group_of}
+use Rattle.theory.specs.Groups.{value_at, group_of}
 use Rattle.theory.specs.Packets.{continues, headers, lengths, srd_length, srd_row, data_start, segment_groups}
 use Rattle.theory.specs.Naming.{SoundNaming}
 use Rattle.theory.specs.Taking.{segment_start, segment_names, names, octets_of, taken, sets, picture_after, map_after, set_count}
-use Rattle.theory.proofs.Filling.{filled_none, filled_same, filled_twice}
-use Rattle.theory.proofs.Maps.{marked_none, marked_same, marked_twice, bit_marked}
-use Rattle.theory.proofs.Named.{count_same, count_none}
+use Rattle.theory.proofs.Filling.{filled_same}
+use Rattle.theory.proofs.Maps.{marked_same}
+use Rattle.theory.proofs.Named.{count_same}
 use Rattle.theory.proofs.Searches.{none_below_at}
-use Rattle.receiver.specs.Filling.{group_at, named, named_sets, packet_value, run, run_sets, run_value}
-use Rattle.receiver.proofs.Counting.{count_join}
-use Rattle.receiver.proofs.Groups.{room}
+use Rattle.receiver.specs.Filling.{GroupsPut, InPart, clear_of, named, packet_value, run, run_value, start_of}
+use Rattle.receiver.proofs.Puts.{none_put, more_put}
 
--- the first i segments of a packet, into a picture v and a map m: what is in them now, and the count
+-- the first i segments of a packet were put into a picture v and a map m
 abbrev pub PacketSoFar : Part → Picture → List ℕ → List ℕ → ℕ → Picture → List ℕ → ℕ → Type 0
-PacketSoFar t v m q i now map count =
-    (now ≡ filled t v (λ h _. named_sets t m q i h) (packet_value t q))
-    × (map ≡ marked m (named t q i))
-    × (count ≡ count_below (groups t) (named_sets t m q i))
-    × (count ≤ i * 65535)
+PacketSoFar t v m q i now map count = GroupsPut t v m (named t q i) (packet_value t q) now map count × (count ≤ i * 65535)
 
-pub packet_begins : (t : Part) (v : Picture) (m q : List ℕ) → ((i : ℕ) → get_or m i 0 < 256) → PacketSoFar t v m q 0 v m 0
-packet_begins t v m q small = (
-  filled_none t v (λ h _. named_sets t m q 0 h) (packet_value t q) (λ _ _. refl),
-  marked_none m (named t q 0) small (λ _. refl),
-  sym (count_none (groups t) (named_sets t m q 0) (λ _ _. refl)),
-  omega arith,
-)
+pub packet_begins : (t : Part) (v : Picture) (m q : List ℕ) → AllOctets m → PacketSoFar t v m q 0 v m 0
+packet_begins t v m q octets = (none_put t v m (named t q 0) (packet_value t q) octets (λ _. refl), omega arith)
 
 pub few_headers : (q : List ℕ) → headers q ≤ 3
 few_headers q = go (continues q 0) (continues q 1)
@@ -43,27 +34,30 @@ few_headers q = go (continues q 0) (continues q 1)
     go true false = lit≤ tt
     go false y = lit≤ tt
 
--- what putting a segment leaves
-abbrev pub SegmentPut : Part → Picture → List ℕ → Placed → Picture → List ℕ → ℕ → Type 0
-SegmentPut t now map x now' map' count =
-    let s = group_at t x.unit_row x.first_group in
-    (now' ≡ filled t now (λ g _. run_sets map s x.groups g) (run_value t x.octets s))
-    × (map' ≡ marked map (run s x.groups))
-    × (count ≡ count_below (groups t) (run_sets map s x.groups))
+-- i segments were handed out, and these are left
+pub record HandedOut (w : Carried) (i : ℕ) (left : List Placed) : Type 0 where
+  pub few : i ≤ w.count
+  pub those : left ≡ segments_from w i
 
--- the segment that the packet hands out
-pub handed_out : (t : Part) (q : List ℕ) (w : Carried) (i : ℕ) (x : Placed) → w ≡ carried t q → i < headers q → Some x ≡ segment_of w i
-    → x ≡ segment_at t q i
-handed_out t q w i x ew h e =
-    let there : Some x ≡ Some (segment_at t q i) =
-    e ∙ ap (λ y. segment_of y i) ew ∙ cond-true (ltb i (headers q)) (Some (segment_at t q i)) None (lt-ltb i (headers q) h) in
-    cc
+-- one more, and none
+pub one_handed_out : (w : Carried) (i : ℕ) (x : Placed) (left left' : List Placed) → HandedOut w i left → left ≡ x ∷ left'
+    → (i < w.count) × (x ≡ w.segment i) × HandedOut w (i + 1) left'
+one_handed_out w i x left left' out e = go (w.count - i) refl (sym out.those ∙ e)
+  where
+    go : (n : ℕ) → w.count - i ≡ n → map w.segment (range_with_len i n) ≡ x ∷ left' → (i < w.count) × (x ≡ w.segment i) × HandedOut w (i + 1) left'
+    go zero h k = cc
+    go (suc n) h k =
+        let one : x ≡ w.segment i = cc in
+        let more : left' ≡ map w.segment (range_with_len (i + 1) n) = cc in
+        let those : n ≡ w.count - (i + 1) = omega arith in
+        (omega arith, one, record { few = omega arith; those = more ∙ ap (λ j. map w.segment (range_with_len (i + 1) j)) those })
 
-pub none_handed_out : (t : Part) (q : List ℕ) (w : Carried) (i : ℕ) → w ≡ carried t q → i < headers q → None ≡ segment_of w i → ⊥
-none_handed_out t q w i ew h e =
-    let there : None ≡ Some (segment_at t q i) =
-    e ∙ ap (λ y. segment_of y i) ew ∙ cond-true (ltb i (headers q)) (Some (segment_at t q i)) None (lt-ltb i (headers q) h) in
-    let z : ◌≡◌ {A = ℕ} 0 1 = cc in omega arith
+pub none_left : (w : Carried) (i : ℕ) (left : List Placed) → HandedOut w i left → left ≡ [] → i ≡ w.count
+none_left w i left out e = go (w.count - i) refl (sym out.those ∙ e)
+  where
+    go : (n : ℕ) → w.count - i ≡ n → map w.segment (range_with_len i n) ≡ [] → i ≡ w.count
+    go zero h k = omega (arith, out.few)
+    go (suc n) h k = cc
 
 -- a search that meets the first number that passes ends there
 first_is : (f : ℕ → Bool) (n a i : ℕ) → a ≤ i → i < a + n → f i ≡ true → ((j : ℕ) → j < i → f j ≡ false) → first_from a n f ≡ i
@@ -83,58 +77,22 @@ part_of_part q at len d o h =
     ∙ take-take o (len - d) (drop d (drop at q)) (omega arith)
     ∙ ap (take o) (drop-drop d at q)
 
--- n: one of the groups of the segments before; r: one of this segment's groups; b: the map's bit
-alike : (r x y : Bool) → (r ≡ true → x ≡ y) → (r && not x) ≡ (r && not y)
-alike true x y h = ap not (h refl)
-alike false x y h = refl
-
-joined : (n r b : Bool) → ((n && not b) || (r && not (b || n))) ≡ ((r || n) && not b)
-joined true true true = refl
-joined true true false = refl
-joined true false true = refl
-joined true false false = refl
-joined false true true = refl
-joined false true false = refl
-joined false false true = refl
-joined false false false = refl
-
-summed : (n r b : Bool) → cond ((r || n) && not b) 1 0 ≡ cond (n && not b) 1 0 + cond (r && not (b || n)) 1 0
-summed true true true = refl
-summed true true false = refl
-summed true false true = refl
-summed true false false = refl
-summed false true true = refl
-summed false true false = refl
-summed false false true = refl
-summed false false false = refl
-
-or_swap : (x y : Bool) → (x || y) ≡ (y || x)
-or_swap true true = refl
-or_swap true false = refl
-or_swap false true = refl
-or_swap false false = refl
-
-new_only : (b n : Bool) → (b || n) ≡ false → n ≡ false
-new_only true n h = absurd (both_ways true h refl)
-new_only false n h = h
-
--- what putting a segment requires
-pub record SegmentFits (t : Part) (x : Placed) : Type 0 where
-  pub whole : x.groups * (layout_of t.format).octets ≤ length x.octets
-  pub row : x.unit_row ≤ 65535
-  pub inside : x.first_group + x.groups ≤ row_groups t.format
-  pub below : group_at t x.unit_row x.first_group + x.groups ≤ groups t
+-- group i of n, of o octets each, lies in the segment
+room : (i n o size : ℕ) → i < n → n * o ≤ size → i * o + o ≤ size
+room i n o size h k =
+    let most : (i + 1) * o ≤ n * o = mul-le-mul_right o (omega arith) in
+    omega (arith, add-mul i 1 o, one-mul o)
 
 module _ (t : Part) (q : List ℕ) (w : SoundNaming t q) (i : ℕ) (here : i < headers q) (x : Placed) (is : x ≡ segment_at t q i) where
   length_here : length (take (srd_length q i) (drop (data_start q + lengths q i) q)) ≡ srd_length q i
   length_here = simp (length-take, length-drop) (omega (arith, w.segment_inside i here))
 
-  pub segment_fits : SegmentFits t x
-  segment_fits = subst (SegmentFits t) (sym is) (record {
+  pub segment_fits : InPart t x
+  segment_fits = subst (InPart t) (sym is) (record {
     whole = omega (arith, w.whole_segments i here, length_here);
     row = omega (arith, div-le_self (srd_row q i) t.format.kind.rows);
-    inside = w.in_row i here;
-    below = w.in_part i here;
+    in_row = w.in_row i here;
+    in_part = w.in_part i here;
   })
 
   -- the octets of a group that no segment before names
@@ -153,41 +111,21 @@ module _ (t : Part) (q : List ℕ) (w : SoundNaming t q) (i : ℕ) (here : i < h
       ∙ ap (λ j. take o (drop (data_start q + lengths q j + (g - segment_start t q j) * o) q)) (sym at)
 
   pub packet_takes : (v : Picture) (m : List ℕ) → groups t ≤ 8 * length m → (now : Picture) (map : List ℕ) (count : ℕ) → PacketSoFar t v m q i now map count
-      → (now' : Picture) (map' : List ℕ) (r : ℕ) → SegmentPut t now map x now' map' r → r ≤ 65535
-      → PacketSoFar t v m q (i + 1) now' map' (count + r)
-  packet_takes v m mapped now map count so_far now' map' r put-x few =
-      let put : SegmentPut t now map (segment_at t q i) now' map' r = subst (λ y. SegmentPut t now map y now' map' r) is put-x in
+      → (now' : Picture) (map' : List ℕ) (r : ℕ) → GroupsPut t now map (run (start_of t x) x.groups) (run_value t x.octets (start_of t x)) now' map' r
+      → r ≤ 65535 → PacketSoFar t v m q (i + 1) now' map' (count + r)
+  packet_takes v m mapped now map count so_far now' map' r put few =
       let s = segment_start t q i in
       let n = segment_groups t q i in
-      let d = packet_value t q in
-      let in_run : ℕ → Bool = run s n in
-      let below : (g : ℕ) → in_run g ≡ true → g < 8 * length m = λ g z.
+      let there = subst (λ y. GroupsPut t now map (run (start_of t y) y.groups) (run_value t y.octets (start_of t y)) now' map' r) is put in
+      let below : (g : ℕ) → run s n g ≡ true → g < 8 * length m = λ g z.
       let high : g < s + n = ltb-true g (s + n) (and_parts (leb s g) (ltb g (s + n)) z).1 in
       omega (arith, w.in_part i here) in
-      let fresh : (g : ℕ) → run_sets map s n g ≡ (in_run g && not (bit m g || named t q i g)) = λ g.
-      alike (in_run g) (bit map g) (bit m g || named t q i g) (λ z. ap (λ y. bit y g) so_far.1 ∙ bit_marked m (named t q i) g (below g z)) in
-      let more : (g : ℕ) → named t q (i + 1) g ≡ (in_run g || named t q i g) = λ g. ap (λ y. any_below y (λ j. segment_names t q j g)) (add-one i) in
-      let value : (g k : ℕ) → run_sets map s n g ≡ true → run_value t (segment_at t q i).octets s g k ≡ d g k = λ g k z.
-      let parts = and_parts (in_run g) (not (bit m g || named t q i g)) (sym (fresh g) ∙ z) in
-      ap (λ y. value_at (layout_of t.format) t.format.depth y k)
-      (octets_there g parts.0 (new_only (bit m g) (named t q i g) (not-true (bit m g || named t q i g) parts.1))) in (
-        put.0
-            ∙ ap (λ y. filled t y (λ g _. run_sets map s n g) (run_value t (segment_at t q i).octets s)) so_far.0
-            ∙ filled_twice t v (λ h _. named_sets t m q i h) (λ g _. run_sets map s n g) d (run_value t (segment_at t q i).octets s) d value (λ _ _ _ _. refl)
-            ∙ filled_same t v (λ h _. named_sets t m q i h || run_sets map s n h) (λ h _. named_sets t m q (i + 1) h) d d
-            (λ p r c _.
-            let g = group_of t p r c in
-            ap (λ y. (named t q i g && not (bit m g)) || y) (fresh g) ∙ joined (named t q i g) (in_run g) (bit m g)
-            ∙ ap (λ y. y && not (bit m g)) (sym (more g)))
-            (λ _ _ _. refl),
-        put.1 ∙ ap (λ y. marked y in_run) so_far.1 ∙ marked_twice m (named t q i) in_run
-            ∙ marked_same m (λ k. named t q i k || in_run k) (named t q (i + 1))
-            (λ k _. ap (λ y. bit m k || y) (or_swap (named t q i k) (in_run k) ∙ sym (more k))),
-        ap₂ (λ a b. a + b) so_far.2 put.2
-            ∙ sym (count_join (groups t) (named_sets t m q i) (run_sets map s n) (named_sets t m q (i + 1))
-            (λ k _. ap (λ y. cond (y && not (bit m k)) 1 0) (more k) ∙ summed (named t q i k) (in_run k) (bit m k)
-            ∙ ap (λ y. cond (named t q i k && not (bit m k)) 1 0 + cond y 1 0) (sym (fresh k)))),
-        omega (arith, so_far.3),
+      let value : (g k : ℕ) → run s n g ≡ true → named t q i g ≡ false → run_value t (segment_at t q i).octets s g k ≡ packet_value t q g k = λ g k a b.
+      ap (λ y. value_at (layout_of t.format) t.format.depth y k) (octets_there g a b) in (
+        more_put t v m (named t q i) (packet_value t q) now map count so_far.0 (named t q (i + 1)) (run s n)
+            (run_value t (segment_at t q i).octets s) now' map' r below there value
+            (λ g. ap (λ y. any_below y (λ j. segment_names t q j g)) (add-one i)),
+        omega (arith, so_far.1),
       )
 
 -- the packet whole
@@ -205,9 +143,9 @@ pub packet_ends : (t : Part) (v : Picture) (m q : List ℕ) → taken t v m q �
     → PacketSoFar t v m q (headers q) now map count
     → (now ≡ picture_after t v m q) × (map ≡ map_after t v m q) × (count ≡ set_count t v m q)
 packet_ends t v m q is_taken now map count all = (
-  all.0
-      ∙ filled_same t v (λ h _. named_sets t m q (headers q) h) (λ h _. sets t v m q h) (packet_value t q) (packet_value t q)
+  all.0.picture
+      ∙ filled_same t v (λ h _. clear_of m (names t q) h) (λ h _. sets t v m q h) (packet_value t q) (packet_value t q)
       (λ p r c _. let g = group_of t p r c in set_now (taken t v m q) (names t q g) (bit m g) is_taken) (λ _ _ _. refl),
-  all.1 ∙ marked_same m (names t q) (sets t v m q) (λ k _. marked_now (taken t v m q) (names t q k) (bit m k) is_taken),
-  all.2 ∙ count_same (groups t) (named_sets t m q (headers q)) (sets t v m q) (λ k _. set_now (taken t v m q) (names t q k) (bit m k) is_taken),
+  all.0.bits ∙ marked_same m (names t q) (sets t v m q) (λ k _. marked_now (taken t v m q) (names t q k) (bit m k) is_taken),
+  all.0.number ∙ count_same (groups t) (clear_of m (names t q)) (sets t v m q) (λ k _. set_now (taken t v m q) (names t q k) (bit m k) is_taken),
 )

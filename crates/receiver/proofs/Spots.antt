@@ -6,7 +6,6 @@ use Rattle.theory.specs.Formats.{Part, layout_of, row_groups, plane_width}
 use Rattle.theory.specs.Groups.{place_row, place_column, group_of, position_in_group}
 use Rattle.theory.proofs.Places.{group_height_pos, group_width_pos, in_row}
 use Rattle.theory.proofs.Positions.{position_found, position_named}
-use Rattle.receiver.specs.Filling.{group_at}
 
 module _ (t : Part) (w : LawfulLayout t.format.kind t.format.depth) where
   -- the place of position k of a group is in that group, at k
@@ -54,14 +53,3 @@ module _ (t : Part) (w : LawfulLayout t.format.kind t.format.depth) where
         sym (div-add-mod' c W) ∙ ap₂ (λ x y. x * W + y) ea (sym ec)
             ∙ ap (λ q. (g % R) * group_width l q + l.column k) (sym ep),
       )
-
--- unit row and place in it, of a group's number
-pub at_row : (t : Part) (u a : ℕ) → a < row_groups t.format → group_at t u a / row_groups t.format ≡ u
-at_row t u a h = div-mul-add u (row_groups t.format) a h
-
-pub in_unit_row : (t : Part) (u a : ℕ) → a < row_groups t.format → group_at t u a % row_groups t.format ≡ a
-in_unit_row t u a h = mod-mul-add u (row_groups t.format) a h
-
--- a place as it is computed
-pub same_spot : (f : ℕ → ℕ) (u u' n n' p p' s d d' : ℕ) → u' ≡ u → n ≡ n' → s ≡ f p → p ≡ p' → d ≡ d' → u * (n / s) + d ≡ u' * (n' / f p') + d'
-same_spot f u u' n n' p p' s d d' e₁ e₂ e₃ e₄ e₅ = cc

@@ -6,7 +6,6 @@
 
 mod group;
 mod map;
-mod packet;
 mod segment;
 mod states;
 

@@ -7,13 +7,14 @@ ghost use Rattle.stores.specs.Keeping.{IfRefused};
 ghost use Rattle.theory.specs.Answers.{verdict};
 ghost use Rattle.theory.specs.Octets.{AllOctets};
 ghost use Rattle.theory.specs.Taking.{open_refusal, map_after_opening, count_refusal, survey_refusal, offer_answer, picture_after, map_after, count_answer, survey_answer};
-ghost use Rattle.receiver.specs.Opening.{opening, outcome, part_open};
+ghost use Rattle.receiver.specs.Opening.{length_check, opening, outcome, part_open, part_with};
 ghost use Rattle.receiver.specs.Histories.{Begins, LawHolds, CountsUnnamed, SurveysUnnamed};
 
 use crate::map::{clear_bits, reset};
-use crate::packet::put_packet;
+use crate::segment::put_segment;
 use formats::{Format, Part};
 use kinds::GroupKind;
+use packets::Packet;
 use refusals::Refusal;
 use stores::{Store, fits};
 
@@ -37,18 +38,16 @@ impl Idle {
         field: u8,
         map: &mut [u8],
     ) -> Result<Open<K>, (Idle, Refusal)>
-        ensures answer { let t = part_of K.GroupKind.kind (record { format = format; timestamp = timestamp; field = field }) in outcome K.GroupKind.kind result ≡ opening t map.old }
-        ensures map { let t = part_of K.GroupKind.kind (record { format = format; timestamp = timestamp; field = field }) in map.new ≡ map_after_opening t map.old }
-        ensures run { let t = part_of K.GroupKind.kind (record { format = format; timestamp = timestamp; field = field }) in (is_ok result ≡ true → Begins t map.old map.new) }
+        ensures answer { outcome K.GroupKind.kind result ≡ opening (part_with K.GroupKind.kind format timestamp field) map.old }
+        ensures map { map.new ≡ map_after_opening (part_with K.GroupKind.kind format timestamp field) map.old }
+        ensures run { is_ok result ≡ true → Begins (part_with K.GroupKind.kind format timestamp field) map.old map.new }
     {
         let part = Part {
             format,
             timestamp,
             field,
         };
-        if let Err(refusal) = check_opening(&part, map) {
-            return Err((self, refusal));
-        }
+        check_opening(&part, map).map_err(|refusal| (self, refusal))?;
         reset(map, part.map_octets());
         Ok(Open { part })
     }
@@ -63,20 +62,25 @@ impl<K: GroupKind> Open<K> {
         store: &mut S,
         map: &mut [u8],
     ) -> Result<usize, Refusal>
-        ensures answer { let t = part_open K.GroupKind.kind self.now in let v = S.Store.picture store.old in numbered result ≡ offer_answer t v map.old packet.now }
-        ensures picture { let t = part_open K.GroupKind.kind self.now in let v = S.Store.picture store.old in S.Store.picture store.new ≡ picture_after t v map.old packet.now }
-        ensures map { let t = part_open K.GroupKind.kind self.now in let v = S.Store.picture store.old in map.new ≡ map_after t v map.old packet.now }
+        ensures answer { numbered result ≡ offer_answer (part_open K.GroupKind.kind self.now) (S.Store.picture store.old) map.old packet.now }
+        ensures picture { S.Store.picture store.new ≡ picture_after (part_open K.GroupKind.kind self.now) (S.Store.picture store.old) map.old packet.now }
+        ensures map { map.new ≡ map_after (part_open K.GroupKind.kind self.now) (S.Store.picture store.old) map.old packet.now }
         ensures rest { S.Store.rest store.new ≡ S.Store.rest store.old }
         ensures kept { IfRefused result ((store.new ≡ store.old) × (map.new ≡ map.old)) }
     {
         self.check(store, map)?;
-        put_packet(&self.part, packet, store, map)
+        let packet = Packet::read(packet, &self.part)?;
+        let mut count = 0;
+        for segment in packet.iter() {
+            count += put_segment(&self.part, segment, store, map);
+        }
+        Ok(count)
     }
 
     /// How many groups of the part are missing, by the octets of the map: refusal 4 for the format, 6 for a map that is too short.
     pub fn missing(&self, map: &[u8]) -> Result<usize, Refusal>
-        ensures answer { let t = part_open K.GroupKind.kind self.now in numbered result ≡ count_answer t map.now }
-        ensures law { let t = part_open K.GroupKind.kind self.now in CountsUnnamed t map.now (numbered result) }
+        ensures answer { numbered result ≡ count_answer (part_open K.GroupKind.kind self.now) map.now }
+        ensures law { CountsUnnamed (part_open K.GroupKind.kind self.now) map.now (numbered result) }
     {
         self.check_map(map)?;
         Ok(clear_bits(map, self.part.groups()))
@@ -85,9 +89,9 @@ impl<K: GroupKind> Open<K> {
     /// How many groups of the part are missing, with the store at hand: refusal 4 for the format, 6 for a store unlike the part or a map
     /// that is too short. Whatever calls led here, picture, map and answers keep the law of runs.
     pub fn survey<S: Store>(&self, store: &S, map: &[u8]) -> Result<usize, Refusal>
-        ensures answer { let t = part_open K.GroupKind.kind self.now in let v = S.Store.picture store.now in numbered result ≡ survey_answer t v map.now }
-        ensures law { let t = part_open K.GroupKind.kind self.now in let v = S.Store.picture store.now in LawHolds t v map.now }
-        ensures count { let t = part_open K.GroupKind.kind self.now in let v = S.Store.picture store.now in SurveysUnnamed t v map.now (numbered result) }
+        ensures answer { numbered result ≡ survey_answer (part_open K.GroupKind.kind self.now) (S.Store.picture store.now) map.now }
+        ensures law { LawHolds (part_open K.GroupKind.kind self.now) (S.Store.picture store.now) map.now }
+        ensures count { SurveysUnnamed (part_open K.GroupKind.kind self.now) (S.Store.picture store.now) map.now (numbered result) }
     {
         self.check(store, map)?;
         Ok(clear_bits(map, self.part.groups()))
@@ -104,28 +108,23 @@ impl<K: GroupKind> Open<K> {
 
     // Refusal 4, then 6 for the store or the map.
     fn check<S: Store>(&self, store: &S, map: &[u8]) -> Result<(), Refusal>
-        ensures answer { let t = part_open K.GroupKind.kind self.now in let v = S.Store.picture store.now in numbered result ≡ verdict (survey_refusal t v map.now) }
+        ensures answer { numbered result ≡ verdict (survey_refusal (part_open K.GroupKind.kind self.now) (S.Store.picture store.now) map.now) }
         ensures octets { AllOctets map.now }
     {
         self.check_map(map)?;
-        if fits(&self.part, store) {
-            Ok(())
-        } else {
-            Err(Refusal::StoreOrMapUnfit)
+        if !fits(&self.part, store) {
+            return Err(Refusal::StoreOrMapUnfit);
         }
+        Ok(())
     }
 
     // Refusal 4, then 6 for the map.
     fn check_map(&self, map: &[u8]) -> Result<(), Refusal>
-        ensures answer { let t = part_open K.GroupKind.kind self.now in numbered result ≡ verdict (count_refusal t map.now) }
+        ensures answer { numbered result ≡ verdict (count_refusal (part_open K.GroupKind.kind self.now) map.now) }
         ensures octets { AllOctets map.now }
     {
         self.part.format.check()?;
-        if map.len() >= self.part.map_octets() {
-            Ok(())
-        } else {
-            Err(Refusal::StoreOrMapUnfit)
-        }
+        check_length(&self.part, map)
     }
 }
 
@@ -135,9 +134,15 @@ fn check_opening<K: GroupKind>(part: &Part<K>, map: &[u8]) -> Result<(), Refusal
     ensures octets { AllOctets map.now }
 {
     part.check()?;
-    if map.len() >= part.map_octets() {
-        Ok(())
-    } else {
-        Err(Refusal::StoreOrMapUnfit)
+    check_length(part, map)
+}
+
+// Refusal 6 for a map that is too short.
+fn check_length<K: GroupKind>(part: &Part<K>, map: &[u8]) -> Result<(), Refusal>
+    ensures { numbered result ≡ length_check (part_of K.GroupKind.kind part.now) map.now }
+{
+    if map.len() < part.map_octets() {
+        return Err(Refusal::StoreOrMapUnfit);
     }
+    Ok(())
 }

@@ -1,9 +1,9 @@
-use Rattle.std.proofs.Common.{◌*◌, ◌≤◌, not, length, sym, ap, ◌∙◌, subst}
+use Rattle.std.proofs.Common.{not, ap, ◌∙◌}
 use Rattle.refusals.specs.Numbers.{numbered}
 use Rattle.theory.specs.Octets.{bit, count_below}
 use Rattle.theory.specs.Taking.{count_refusal, missing}
 use Rattle.receiver.specs.Opening.{part_open}
-use Rattle.receiver.proofs.Checks.{handed_on, passes, bits_there}
+use Rattle.receiver.proofs.Checks.{handed_on}
 use Rattle.receiver.proofs.Surveys.{uncounted, counted, counts_unnamed}
 use Rattle.receiver.proofs.states.Open.missing.Goals as goal
 
@@ -14,12 +14,6 @@ returns-in_err-check_map g c =
     let answer = handed_on _ _ c.from_residual.result c.from_residual.ensures.1
     (uncounted (count_refusal t m) _ (missing t m) c.in_err-check_map.ensures.answer) in
     record { answer = answer; law = counts_unnamed t m (numbered c.from_residual.result) answer }
-
-pub clear_bits-requires : goal.clear_bits-requires
-clear_bits-requires g c =
-    let t = part_open g.K.GroupKind.kind c.args.self.now in
-    let m = c.args.map.now in
-    subst (λ n. n ≤ 8 * length m) (sym c.groups.ensures.value) (bits_there t m (passes (count_refusal t m) c.in_ok-check_map.ensures.answer))
 
 pub returns : goal.returns
 returns g c =
