@@ -1,8 +1,7 @@
 -- The format that a record announces. Assumes nothing.
 use Rattle.std.specs.Prelude.{ℕ, Bool, cond, ◌&&◌, Ok, Err, Result}
 use Rattle.records.specs.declared.Record.{Record}
-use Rattle.records.specs.declared.Depth.{Depth}
-use Rattle.records.specs.declared.Depth.TheVariants.{Bits8, Bits10, Bits12, Bits16, Float16}
+use Rattle.records.specs.Depths.{depth_bits}
 use Rattle.records.specs.declared.PackingMode.{PackingMode}
 use Rattle.records.specs.declared.PackingMode.TheVariants.{General, Block}
 use Rattle.records.specs.declared.Sampling.{Sampling}
@@ -41,14 +40,6 @@ table_row YCbCr420 = 4
 table_row ClYCbCr420 = 4
 table_row ICtCp420 = 4
 table_row Key = 5
-
--- 16f is carried as sixteen bits
-abbrev pub depth_bits : Depth → ℕ
-depth_bits Bits8 = 8
-depth_bits Bits10 = 10
-depth_bits Bits12 = 12
-depth_bits Bits16 = 16
-depth_bits Float16 = 16
 
 -- progressive, interlaced, or progressive segmented
 abbrev pub scan_of : Record → ℕ

@@ -19,7 +19,7 @@ frame_of f = record {
   field = 0;
 }
 
-abbrev plane_area : Part → ℕ → ℕ
+abbrev pub plane_area : Part → ℕ → ℕ
 plane_area t p = plane_width t p * plane_height t p
 
 -- one word for each sample of planes 0, 1 and 2

@@ -1,3 +1,4 @@
 pub mod Announced
 pub mod Frames
 pub mod Meaning
+pub mod Numbers

@@ -1,12 +1,14 @@
 //! The format that a record announces, for the kind of its sampling.
 
-ghost use Rattle.std.specs.Prelude.{◌≡◌, Bool, ◌==◌};
+ghost use Rattle.std.specs.Prelude.{◌≡◌, ◌<◌, Bool, ◌==◌, MatchResult};
 ghost use Rattle.records.specs.declared.Sampling.{Sampling as SamplingT};
-ghost use Rattle.formats.specs.Announced.{table_row, announced, outcome, depth_bits, scan_of, mode_of};
+ghost use Rattle.formats.specs.Announced.{table_row, announced, outcome};
 
 use crate::format::Format;
+use crate::mode::Mode;
+use crate::scan::Scan;
 use kinds::{GroupKind, Key, Rgb, Xyz, Ycc420, Ycc422, Ycc444};
-use records::{Depth, PackingMode, Record, Sampling};
+use records::{Record, Sampling};
 use refusals::Refusal;
 
 /// A kind that serves some of the samplings that a format line can name.
@@ -85,19 +87,13 @@ impl<K: SampledKind + Copy> Format<K> {
     ) -> Result<Format<K>, Refusal>
         ensures { outcome K.GroupKind.kind result ≡ announced K.SampledKind.served (K.GroupKind.kind kind) «record».now payload_type ssrc }
     {
-        let Ok(width) = u16::try_from(record.width) else {
-            return Err(Refusal::FormatOutsideLimits);
-        };
-        let Ok(height) = u16::try_from(record.height) else {
-            return Err(Refusal::FormatOutsideLimits);
-        };
         let format = Format {
             kind,
-            depth: bits_of(record.depth),
-            width,
-            height,
-            scan: scan_of(record),
-            mode: mode_of(record.packing),
+            depth: u8::from(record.depth),
+            width: side(record.width)?,
+            height: side(record.height)?,
+            scan: u8::from(Scan::from(record)),
+            mode: u8::from(Mode::from(record.packing)),
             payload_type,
             ssrc,
         };
@@ -109,36 +105,9 @@ impl<K: SampledKind + Copy> Format<K> {
     }
 }
 
-// Floating point of 16 bits is carried as any 16 bits.
-fn bits_of(depth: Depth) -> u8
-    ensures { result ≡ depth_bits depth }
+// Columns or rows, in the 16 bits of a format.
+fn side(size: u32) -> Result<u16, Refusal>
+    ensures { MatchResult result (λ side. side ≡ size) (λ e. (e ≡ Refusal.FormatOutsideLimits) × (65535 < size)) }
 {
-    match depth {
-        Depth::Bits8 => 8,
-        Depth::Bits10 => 10,
-        Depth::Bits12 => 12,
-        Depth::Bits16 => 16,
-        Depth::Float16 => 16,
-    }
-}
-
-fn scan_of(record: &Record) -> u8
-    ensures { result ≡ scan_of «record».now }
-{
-    if !record.interlace {
-        0
-    } else if record.segmented {
-        2
-    } else {
-        1
-    }
-}
-
-fn mode_of(packing: PackingMode) -> u8
-    ensures { result ≡ mode_of packing }
-{
-    match packing {
-        PackingMode::General => 1,
-        PackingMode::Block => 2,
-    }
+    u16::try_from(size).map_err(|_| Refusal::FormatOutsideLimits)
 }

@@ -1,13 +1,13 @@
 //! The whole frame of a format, which a store keeps, and the memory that it takes.
 
-ghost use Rattle.std.specs.Prelude.{◌≡◌, ◌*◌, ◌≤◌};
-ghost use Rattle.theory.specs.Formats.{plane_width, plane_height};
+ghost use Rattle.std.specs.Prelude.{◌≡◌};
 ghost use Rattle.formats.specs.Meaning.{format_of, part_of};
 ghost use Rattle.formats.specs.Frames.{frame_of, planar_words, packed_octets};
 
 use crate::format::Format;
 use crate::part::Part;
-use crate::sizes::{area, octets_of};
+use crate::scan::Scan;
+use crate::sizes::times;
 use kinds::GroupKind;
 
 impl<K: GroupKind + Copy> Format<K> {
@@ -15,18 +15,11 @@ impl<K: GroupKind + Copy> Format<K> {
     pub fn frame(&self) -> Part<K>
         ensures { part_of K.GroupKind.kind result ≡ frame_of (format_of K.GroupKind.kind self.now) }
     {
-        let format = Format {
-            kind: self.kind,
-            depth: self.depth,
-            width: self.width,
-            height: self.height,
-            scan: 0,
-            mode: self.mode,
-            payload_type: self.payload_type,
-            ssrc: self.ssrc,
-        };
         Part {
-            format,
+            format: Format {
+                scan: Scan::Progressive as u8,
+                ..*self
+            },
             timestamp: 0,
             field: 0,
         }
@@ -37,21 +30,13 @@ impl<K: GroupKind + Copy> Format<K> {
         ensures { result ≡ planar_words (format_of K.GroupKind.kind self.now) }
     {
         let frame = self.frame();
-        plane_area(&frame, 0) + plane_area(&frame, 1) + plane_area(&frame, 2)
+        (0..3).map(|plane| frame.plane_area(plane)).sum()
     }
 
     /// Octets of a frame that is kept as on the wire, group after group.
     pub fn packed_octets(&self) -> usize
         ensures { result ≡ packed_octets (format_of K.GroupKind.kind self.now) }
     {
-        octets_of(self.frame().groups(), self.group_octets())
+        times(self.frame().groups(), self.group_octets())
     }
-}
-
-// Samples of a plane.
-fn plane_area<K: GroupKind>(part: &Part<K>, plane: usize) -> usize
-    ensures value { result ≡ plane_width (part_of K.GroupKind.kind part.now) plane * plane_height (part_of K.GroupKind.kind part.now) plane }
-    ensures bound { result ≤ 65535 * 65535 }
-{
-    area(part.plane_width(plane), part.plane_height(plane))
 }

@@ -5,9 +5,13 @@
 mod announced;
 mod format;
 mod frame;
+mod mode;
 mod part;
+mod scan;
 mod sizes;
 
 pub use announced::SampledKind;
 pub use format::Format;
+pub use mode::Mode;
 pub use part::Part;
+pub use scan::Scan;

@@ -3,10 +3,11 @@
 ghost use Rattle.std.specs.Prelude.{◌≡◌, ◌*◌, ◌≤◌};
 ghost use Rattle.refusals.specs.Numbers.{numbered};
 ghost use Rattle.theory.specs.Formats.{rows as rows_of, unit_rows, groups as groups_of, map_octets, plane_width, plane_height, lawful_field};
+ghost use Rattle.formats.specs.Frames.{plane_area};
 ghost use Rattle.formats.specs.Meaning.{part_of, part_check};
 
 use crate::format::Format;
-use crate::sizes::{area, divided_up};
+use crate::sizes::{divided_up, times};
 use kinds::GroupKind;
 use refusals::Refusal;
 
@@ -23,19 +24,18 @@ impl<K: GroupKind> Part<K> {
     pub fn check(&self) -> Result<(), Refusal>
         ensures { numbered result ≡ part_check (part_of K.GroupKind.kind self.now) }
     {
-        if !self.format.is_lawful() {
-            return Err(Refusal::FormatOutsideLimits);
+        self.format.check()?;
+        if self.has_field() {
+            Ok(())
+        } else {
+            Err(Refusal::NoSuchField)
         }
-        if !self.has_field() {
-            return Err(Refusal::NoSuchField);
-        }
-        Ok(())
     }
 
     fn has_field(&self) -> bool
         ensures { result ≡ lawful_field (part_of K.GroupKind.kind self.now).format self.now.field }
     {
-        self.field <= if self.format.scan == 0 { 0 } else { 1 }
+        self.field == 0 || self.field == 1 && !self.format.is_progressive()
     }
 
     /// Rows of the part: all of the frame, or every second one.
@@ -43,11 +43,11 @@ impl<K: GroupKind> Part<K> {
         ensures value { result ≡ rows_of (part_of K.GroupKind.kind self.now) }
         ensures bound { result ≤ 65535 }
     {
-        let height = self.format.height as usize;
-        if self.format.scan == 0 {
+        let height = usize::from(self.format.height);
+        if self.format.is_progressive() {
             height
         } else {
-            (height + 1).saturating_sub(self.field as usize) / 2
+            (height + 1).saturating_sub(usize::from(self.field)) / 2
         }
     }
 
@@ -64,7 +64,7 @@ impl<K: GroupKind> Part<K> {
         ensures value { result ≡ groups_of (part_of K.GroupKind.kind self.now) }
         ensures bound { result ≤ 65535 * 65535 }
     {
-        area(self.format.row_groups(), self.unit_rows())
+        times(self.format.row_groups(), self.unit_rows())
     }
 
     /// Octets of the arrival map: a bit for each group.
@@ -74,32 +74,29 @@ impl<K: GroupKind> Part<K> {
         divided_up(self.groups(), 8)
     }
 
-    /// Columns of a plane; 0 of a plane that the kind does not have.
+    /// Columns of a plane; 0 of a plane that the kind does not have, since its step is 0.
     pub fn plane_width(&self, plane: usize) -> usize
         ensures value { result ≡ plane_width (part_of K.GroupKind.kind self.now) plane }
         ensures bound { result ≤ 65535 }
     {
-        let format = &self.format;
-        if plane < format.kind.plane_count() {
-            divided_up(
-                format.width as usize,
-                format.kind.column_step(format.depth, plane),
-            )
-        } else {
-            0
-        }
+        let step = self.format.kind.column_step(self.format.depth, plane);
+        divided_up(usize::from(self.format.width), step)
     }
 
-    /// Rows of a plane; 0 of a plane that the kind does not have.
+    /// Rows of a plane; 0 of a plane that the kind does not have, since its step is 0.
     pub fn plane_height(&self, plane: usize) -> usize
         ensures value { result ≡ plane_height (part_of K.GroupKind.kind self.now) plane }
         ensures bound { result ≤ 65535 }
     {
-        let format = &self.format;
-        if plane < format.kind.plane_count() {
-            divided_up(self.rows(), format.kind.row_step(format.depth, plane))
-        } else {
-            0
-        }
+        let step = self.format.kind.row_step(self.format.depth, plane);
+        divided_up(self.rows(), step)
+    }
+
+    /// Samples of a plane.
+    pub(crate) fn plane_area(&self, plane: usize) -> usize
+        ensures value { result ≡ plane_area (part_of K.GroupKind.kind self.now) plane }
+        ensures bound { result ≤ 65535 * 65535 }
+    {
+        times(self.plane_width(plane), self.plane_height(plane))
     }
 }

@@ -11,21 +11,12 @@ pub(crate) fn divided_up(a: usize, b: usize) -> usize
     if b == 0 { 0 } else { a.div_ceil(b) }
 }
 
-/// The product of two sizes below 2^16.
-pub(crate) fn area(width: usize, height: usize) -> usize
-    requires wide { width ≤ 65535 }
-    requires high { height ≤ 65535 }
-    ensures value { result ≡ width * height }
-    ensures bound { result ≤ 65535 * 65535 }
+/// So many times a size below 2^16, of what there is less than 2^32 of.
+pub(crate) fn times(count: usize, size: usize) -> usize
+    requires many { count ≤ 65535 * 65535 }
+    requires small { size ≤ 65535 }
+    ensures value { result ≡ count * size }
+    ensures bound { result ≤ count * 65535 }
 {
-    width * height
-}
-
-/// So many groups of so many octets.
-pub(crate) fn octets_of(groups: usize, octets: usize) -> usize
-    requires many { groups ≤ 65535 * 65535 }
-    requires few { octets ≤ 48 }
-    ensures { result ≡ groups * octets }
-{
-    groups * octets
+    count * size
 }

@@ -1,18 +1,33 @@
 -- From what the check answers to what reading answers, and what follows. Assumes nothing.
-use Rattle.std.proofs.Common.{◌≡◌, ℕ, Bool, true, false, cond, not, List, is_ok, Some, None, Ok, Err, Option, Result, refl, ap, ◌∙◌, arith}
-use Rattle.std.proofs.lemmas.Bool.{both_ways}
-use Rattle.refusals.specs.declared.Refusal.{Refusal}
-use Rattle.theory.specs.Answers.{first_row}
+use Rattle.std.proofs.Common.{◌≡◌, ℕ, Bool, true, false, cond, not, List, Some, None, Ok, Err, Option, Result, refl, ap, ◌∙◌, arith}
+use Rattle.theory.specs.Answers.{first_row, unless, verdict}
 use Rattle.theory.specs.Layouts.{LawfulKind}
 use Rattle.theory.specs.Formats.{Part, lawful_format}
 use Rattle.theory.specs.Packets.{packet_rows}
+use Rattle.formats.specs.Meaning.{format_check}
 use Rattle.theory.specs.Naming.{SoundNaming}
 use Rattle.theory.proofs.Naming.{sound_naming}
-use Rattle.packets.specs.declared.packet.Packet.{Packet}
-use Rattle.packets.specs.Reading.{Carried, carried, unless, reading_refusal, reading_check, reading}
-use Rattle.packets.specs.Carried.{carried_by, carries, outcome}
+use Rattle.packets.specs.Reading.{Carried, carried, reading_refusal, packet_check, reading_check, reading}
+use Rattle.packets.specs.Carried.{carried_by}
 
 module _ (t : Part) (q : List ℕ) where
+  -- row 4 is the first of the table
+  pub limits_refuse : (n : ℕ) → Err n ≡ format_check t.format → Err n ≡ reading_check t q
+  limits_refuse n = go (lawful_format t.format) (first_row (packet_rows t q))
+    where
+      go : (b : Bool) (o : Option ℕ) → ◌≡◌ {A = Result (Unit {0}) ℕ} (Err n) (cond b (Ok tt) (Err 4))
+          → ◌≡◌ {A = Result (Unit {0}) ℕ} (Err n) (verdict (cond (not b) (Some 4) o))
+      go true o e = absurd (let z : ◌≡◌ {A = ℕ} 0 1 = cc in omega arith)
+      go false o e = e
+
+  pub limits_pass : Ok tt ≡ format_check t.format → packet_check t q ≡ reading_check t q
+  limits_pass = go (lawful_format t.format) (first_row (packet_rows t q))
+    where
+      go : (b : Bool) (o : Option ℕ) → ◌≡◌ {A = Result (Unit {0}) ℕ} (Ok tt) (cond b (Ok tt) (Err 4))
+          → verdict o ≡ verdict (cond (not b) (Some 4) o)
+      go true o e = refl
+      go false o e = absurd (let z : ◌≡◌ {A = ℕ} 0 1 = cc in omega arith)
+
   pub refused : (n : ℕ) → Err n ≡ reading_check t q → Err n ≡ reading t q
   refused n = go (reading_refusal t q)
     where
@@ -37,10 +52,6 @@ module _ (t : Part) (q : List ℕ) where
       go false l o n k = absurd (let z : ◌≡◌ {A = ℕ} 0 1 = cc in omega arith)
       go true l (Some row) n k = absurd (let z : ◌≡◌ {A = ℕ} 0 1 = cc in omega arith)
       go true l None n k = sound_naming t law q l n
-
-  pub sound_answer : LawfulKind t.format.kind → (r : Result Packet Refusal) → outcome r ≡ reading t q → is_ok r ≡ true → SoundNaming t q
-  sound_answer law (Err e) a h = absurd (both_ways false refl h)
-  sound_answer law (Ok p) a h = sound law (carries p) a
 
 -- the same octets and the same numbers carry the same
 pub same_carried : (q : List ℕ) (a b c d e f : ℕ) → a ≡ d → b ≡ e → c ≡ f → carried_by q a b c ≡ carried_by q d e f

@@ -1,2 +1,2 @@
-pub mod Loops
 pub mod Answers
+pub mod Searches

@@ -1,6 +1,6 @@
 -- What reading a packet for a part answers. Assumes nothing.
 use Rattle.std.specs.Prelude.{ℕ, ◌+◌, Bool, not, List, ◌∷◌, take, drop, Some, None, Ok, Err, Option, Result}
-use Rattle.theory.specs.Answers.{first_row}
+use Rattle.theory.specs.Answers.{first_row, unless, verdict}
 use Rattle.theory.specs.Formats.{Part, lawful_format}
 use Rattle.theory.specs.Packets.{marker, headers, srd_length, lengths, data_start, unit_row, first_group, segment_groups, packet_rows}
 
@@ -29,21 +29,16 @@ segment_at t q i = record {
 abbrev pub carried : Part → List ℕ → Carried
 carried t q = record { marker = marker q; count = headers q; segment = segment_at t q }
 
--- a value, where nothing refuses it
-abbrev pub unless : {X : Type 0} → Option ℕ → X → Result X ℕ
-unless None x = Ok x
-unless (Some row) x = Err row
-
 -- rows 7 to 18 of the refusal table
 abbrev pub packet_check : Part → List ℕ → Result (Unit {0}) ℕ
-packet_check t q = unless (first_row (packet_rows t q)) tt
+packet_check t q = verdict (first_row (packet_rows t q))
 
 -- row 4 before them
 abbrev pub reading_refusal : Part → List ℕ → Option ℕ
 reading_refusal t q = first_row ((not (lawful_format t.format), 4) ∷ packet_rows t q)
 
 abbrev pub reading_check : Part → List ℕ → Result (Unit {0}) ℕ
-reading_check t q = unless (reading_refusal t q) tt
+reading_check t q = verdict (reading_refusal t q)
 
 -- the refusal, or what the packet carries
 abbrev pub reading : Part → List ℕ → Result Carried ℕ

@@ -4,12 +4,13 @@
 //! A packet that is not refused names groups of the part only, each at most once, and all their octets lie in it.
 #![tactic(auto)]
 
-mod checks;
-mod division;
 mod fields;
 mod headers;
+mod offer;
 mod packet;
 mod reader;
-mod table;
+mod row_header;
+mod segments;
 
 pub use packet::{Packet, Segment};
+pub use segments::Segments;

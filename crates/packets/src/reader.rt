@@ -6,11 +6,12 @@ ghost use Rattle.formats.specs.Meaning.{part_of};
 ghost use Rattle.theory.specs.Naming.{SoundNaming};
 ghost use Rattle.packets.specs.Reading.{reading};
 ghost use Rattle.packets.specs.Carried.{placed, carries, segment_of, outcome};
+ghost use Rattle.packets.specs.Segments.{segments_of, segments_left};
 
-use crate::division::quotient;
-use crate::fields;
+use crate::fields::Fields;
+use crate::offer::Offer;
 use crate::packet::{Packet, Segment};
-use crate::table::check;
+use crate::segments::Segments;
 use formats::Part;
 use kinds::GroupKind;
 use refusals::Refusal;
@@ -21,7 +22,8 @@ impl<'a> Packet<'a> {
         ensures answer { outcome result ≡ reading (part_of K.GroupKind.kind part.now) octets.now }
         ensures sound { is_ok result ≡ true → SoundNaming (part_of K.GroupKind.kind part.now) octets.now }
     {
-        check(octets, part)?;
+        let packet = Fields { octets };
+        Offer { packet, part }.check()?;
         Ok(Packet {
             octets,
             group_octets: part.format.group_octets(),
@@ -34,33 +36,54 @@ impl<'a> Packet<'a> {
     pub fn marker(&self) -> bool
         ensures { result ≡ (carries self.now).marker }
     {
-        fields::marker(self.octets)
+        self.fields().marker()
     }
 
     /// How many segments there are.
     pub fn segments(&self) -> usize
         ensures { result ≡ (carries self.now).count }
     {
-        fields::headers(self.octets)
+        usize::from(self.fields().headers())
+    }
+
+    /// The segments, in the order of their headers.
+    pub fn iter(&self) -> Segments<'a>
+        ensures { segments_left result ≡ segments_of (carries self.now) }
+    {
+        Segments {
+            packet: *self,
+            index: 0,
+        }
     }
 
     /// A segment, in the order of the headers, from 0 on.
     pub fn segment(&self, i: usize) -> Option<Segment<'a>>
         ensures { option_map placed result ≡ segment_of (carries self.now) i }
     {
-        if i >= fields::headers(self.octets) {
+        let i = u8::try_from(i).ok()?;
+        let fields = self.fields();
+        if i >= fields.headers() {
             return None;
         }
-        let start = fields::data_start(self.octets) + fields::lengths(self.octets, i);
-        let length = usize::from(fields::srd_length(self.octets, i));
-        let row = usize::from(fields::srd_row(self.octets, i));
-        let offset = usize::from(fields::srd_offset(self.octets, i));
+        let header = fields.row_header(i);
+        let start = fields.data_start() + fields.lengths(i);
+        let length = usize::from(header.length());
+        let row = usize::from(header.row());
+        let offset = usize::from(header.offset());
         Some(Segment {
             octets: piece(self.octets, start, length),
-            unit_row: quotient(row, self.group_rows),
-            first_group: quotient(offset, self.group_columns),
-            groups: quotient(length, self.group_octets),
+            unit_row: row.checked_div(self.group_rows).unwrap_or(0),
+            first_group: offset.checked_div(self.group_columns).unwrap_or(0),
+            groups: length.checked_div(self.group_octets).unwrap_or(0),
         })
+    }
+
+    fn fields(&self) -> Fields<'a>
+        ensures { result.octets.now ≡ self.now.octets.now }
+    {
+        Fields {
+            octets: self.octets,
+        }
     }
 }
 

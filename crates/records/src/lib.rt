@@ -4,9 +4,10 @@
 
 ghost use Rattle.std.specs.Prelude.{◌≡◌};
 ghost use Rattle.records.specs.Defaults.{transfer_told, range_told, max_udp_told, pixel_aspect_told};
+ghost use Rattle.records.specs.Depths.{depth_bits};
 
 /// The color components of a pixel, and how their planes are sampled.
-#[derive(Clone, Copy)]
+#[derive(Clone, Copy, Debug, PartialEq, Eq)]
 pub enum Sampling {
     YCbCr444,
     YCbCr422,
@@ -23,7 +24,7 @@ pub enum Sampling {
 }
 
 /// Bits of a sample: integers, or floating point of 16 bits.
-#[derive(Clone, Copy)]
+#[derive(Clone, Copy, Debug, PartialEq, Eq)]
 pub enum Depth {
     Bits8,
     Bits10,
@@ -32,8 +33,22 @@ pub enum Depth {
     Float16,
 }
 
+/// The bits of a sample. Floating point of 16 bits is carried as any 16 bits.
+impl From<Depth> for u8 {
+    ghost from_gives = { λ depth bits. bits ≡ depth_bits depth };
+
+    fn from(depth: Depth) -> u8 {
+        match depth {
+            Depth::Bits8 => 8,
+            Depth::Bits10 => 10,
+            Depth::Bits12 => 12,
+            Depth::Bits16 | Depth::Float16 => 16,
+        }
+    }
+}
+
 /// The system of colors that the samples are measured in.
-#[derive(Clone, Copy)]
+#[derive(Clone, Copy, Debug, PartialEq, Eq)]
 pub enum Colorimetry {
     Bt601,
     Bt709,
@@ -47,21 +62,21 @@ pub enum Colorimetry {
 }
 
 /// How packets are filled: as they come, or in blocks of 180 octets.
-#[derive(Clone, Copy)]
+#[derive(Clone, Copy, Debug, PartialEq, Eq)]
 pub enum PackingMode {
     General,
     Block,
 }
 
 /// The edition of ST 2110-20 that the sender follows.
-#[derive(Clone, Copy)]
+#[derive(Clone, Copy, Debug, PartialEq, Eq)]
 pub enum Edition {
     Of2017,
     Of2022,
 }
 
 /// The part of the numbers that sample values use.
-#[derive(Clone, Copy)]
+#[derive(Clone, Copy, Debug, PartialEq, Eq)]
 pub enum Range {
     Narrow,
     Full,
@@ -69,7 +84,7 @@ pub enum Range {
 }
 
 /// The transfer characteristic: how sample values stand for light.
-#[derive(Clone, Copy)]
+#[derive(Clone, Copy, Debug, PartialEq, Eq)]
 pub enum Transfer {
     Sdr,
     Pq,
@@ -85,14 +100,14 @@ pub enum Transfer {
 }
 
 /// Two numbers without a common divisor: a frame rate, or the width and the height of a pixel.
-#[derive(Clone, Copy)]
+#[derive(Clone, Copy, Debug, PartialEq, Eq)]
 pub struct Ratio {
     pub numerator: u32,
     pub denominator: u32,
 }
 
 /// The parameters of a format line. What the line leaves out is `None`; the `_or_default` questions tell what then holds.
-#[derive(Clone, Copy)]
+#[derive(Clone, Copy, Debug, PartialEq, Eq)]
 pub struct Record {
     pub sampling: Sampling,
     pub depth: Depth,
