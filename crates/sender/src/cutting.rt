@@ -7,11 +7,9 @@ ghost use Rattle.theory.specs.Cutting.{cut as cut_of};
 
 use crate::headers::SEGMENT_HEADER;
 use crate::source::Source;
+use formats::Mode;
 use kinds::GroupKind;
 use stores::Store;
-
-// The mode of a format whose sample row data is cut into blocks.
-const BLOCK: u8 = 2;
 
 // Octets for groups in block mode, and for headers and groups in general mode.
 const BLOCK_SPACE: usize = 1260;
@@ -48,7 +46,7 @@ impl<'a, K: GroupKind, S: Store> Source<'a, K, S> {
         ensures part { result.source.part.now ≡ self.now.part.now }
         ensures segments { segments_left result ≡ cut_of (part_of K.GroupKind.kind self.now.part.now) first }
     {
-        let (header, space) = if self.part.format.mode == BLOCK {
+        let (header, space) = if self.part.format.mode == Mode::Block as u8 {
             (0, BLOCK_SPACE)
         } else {
             (SEGMENT_HEADER, GENERAL_SPACE)

@@ -87,6 +87,7 @@ impl<K: GroupKind + Copy> Sending<K> {
     {
         let Written { octets, next } = written;
         let sequence = self.sequence.wrapping_add(1);
+        // Each field by name: a struct with a ghost field takes no `..self`.
         match next {
             Some(group) => Step::More(
                 Sending {

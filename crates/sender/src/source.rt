@@ -15,7 +15,7 @@ use refusals::Refusal;
 use std::alloc::AllocError;
 use stores::{Store, fits};
 
-/// A part whose format and field were tested, with a store that fits it. The part's numbers are counted once for a packet.
+/// A part whose format and field were tested, with a store that fits it. The part's numbers are counted once for a packet, for speed.
 pub(crate) struct Source<'a, K: GroupKind, S: Store> {
     pub(crate) part: &'a Part<K>,
     pub(crate) store: &'a S,
@@ -32,6 +32,7 @@ pub(crate) struct Source<'a, K: GroupKind, S: Store> {
     ghost groups_are: { groups ≡ groups_of (part_of K.GroupKind.kind part.now) },
 }
 
+// By hand: neither is derived for a struct with a ghost field.
 impl<K: GroupKind, S: Store> Copy for Source<'_, K, S> {}
 
 impl<K: GroupKind, S: Store> Clone for Source<'_, K, S> {
