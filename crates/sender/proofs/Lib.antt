@@ -1,4 +1,4 @@
-pub mod Fills
+pub mod Cuts
 pub mod Heads
 pub mod Outcomes
 pub mod Packets

@@ -1,29 +1,21 @@
 -- From what the tests of a call answer to what the call answers.
 use Rattle.std.proofs.Common.{◌≡◌, ℕ, ◌<◌, ◌≤◌, Bool, true, false, cond, not, ltb, List, [], ◌∷◌, ◌++◌, length, drop, Some, None, Ok, Err, Option, Result, sym, refl, ap, ◌∙◌, arith}
 use Rattle.std.proofs.lemmas.Bool.{lt-ltb, le-ltb}
-use Rattle.formats.specs.Meaning.{format_of, format_check, part_of, part_check}
+use Rattle.formats.specs.Meaning.{part_of, part_check}
 use Rattle.theory.specs.Answers.{first_row, is_none}
-use Rattle.theory.specs.Layouts.{Kind, LawfulKind}
+use Rattle.theory.specs.Layouts.{Kind}
 use Rattle.theory.specs.Formats.{Part, lawful_format, lawful_field}
 use Rattle.theory.specs.Pictures.{Picture, fits_part}
 use Rattle.theory.specs.Cutting.{packet, is_last, after_packet, next_sequence, send_refusal, draw_refusal, buffer_after}
-use Rattle.sender.specs.declared.plan.Plan.{Plan}
-use Rattle.sender.specs.declared.sending.Sending.{Sending}
-use Rattle.sender.specs.Tested.{Tested}
-use Rattle.sender.specs.Drawing.{State, Outcome, more, last, refused_or, drawing}
-use Rattle.sender.specs.Plans.{after_plan, Written}
-use Rattle.sender.proofs.Packets.{planned_length}
-use Rattle.sender.proofs.Sizes.{limits}
+use Rattle.sender.specs.declared.drawing.Written.{Written}
+use Rattle.sender.specs.Drawing.{State, more, last, refused_or, drawing}
+use Rattle.sender.specs.Plans.{following, outcome_of, written, after_written}
+use Rattle.sender.specs.Sources.{source_refusal}
 
 -- a format's check passes where it is lawful, and refuses with 4
-format_passes : (b : Bool) → ◌≡◌ {A = Result (Unit {0}) ℕ} (Ok tt) (cond b (Ok tt) (Err 4)) → b ≡ true
+pub format_passes : (b : Bool) → ◌≡◌ {A = Result (Unit {0}) ℕ} (Ok tt) (cond b (Ok tt) (Err 4)) → b ≡ true
 format_passes true e = refl
 format_passes false e = absurd (let z : ◌≡◌ {A = ℕ} 0 1 = cc in omega arith)
-
-pub tested_part : {K : Type 0} (kind : K → Kind) → ((x : K) → LawfulKind (kind x)) → (s : Sending K)
-    → Ok tt ≡ format_check (format_of kind s.part.format) → Tested (part_of kind s.part)
-tested_part kind laws s e =
-    record { lawful_kind = laws s.part.format.kind; format_allowed = format_passes _ e; field_allowed = s.allowed }
 
 pub format_refuses : (n : ℕ) (b : Bool) → ◌≡◌ {A = Result (Unit {0}) ℕ} (Err n) (cond b (Ok tt) (Err 4)) → (b ≡ false) × (n ≡ 4)
 format_refuses n true e = absurd (let z : ◌≡◌ {A = ℕ} 0 1 = cc in omega arith)
@@ -64,17 +56,18 @@ first_of true true c r e = e
 first_of true false c r e = e
 first_of false b c r e = e
 
+-- where the source is refused, the draw is
+pub refused_source : (t : Part) (v : Picture) (seq g room : ℕ) {n : ℕ} → source_refusal t v ≡ Some n → draw_refusal t v seq g room ≡ Some n
+refused_source t v seq g room e = go (lawful_format t.format) (fits_part v t) (ltb room (length (packet t v seq g))) e
+  where
+    go : (a b c : Bool) {n : ℕ} → first_row ((not a, 4) ∷ (not b, 6) ∷ []) ≡ Some n → first_row ((not a, 4) ∷ (not b, 6) ∷ (c, 19) ∷ []) ≡ Some n
+    go true true c e = absurd (let z : ◌≡◌ {A = ℕ} 0 1 = cc in omega arith)
+    go true false c e = e
+    go false b c e = e
+
 module _ (t : Part) (v : Picture) (seq g room : ℕ) where
   short : Bool
   short = ltb room (length (packet t v seq g))
-
-  pub outside_limits : lawful_format t.format ≡ false → draw_refusal t v seq g room ≡ Some 4
-  unfolding short
-  outside_limits l = first_of (lawful_format t.format) (fits_part v t) short (Some 4) (rw l)
-
-  pub unlike_part : lawful_format t.format ≡ true → fits_part v t ≡ false → draw_refusal t v seq g room ≡ Some 6
-  unfolding short
-  unlike_part l f = first_of (lawful_format t.format) (fits_part v t) short (Some 6) (rw (l, f))
 
   pub buffer_short : lawful_format t.format ≡ true → fits_part v t ≡ true → room < length (packet t v seq g)
       → draw_refusal t v seq g room ≡ Some 19
@@ -88,31 +81,54 @@ module _ (t : Part) (v : Picture) (seq g room : ℕ) where
 
 -- the buffer after a draw that was refused, and after one that was not
 module _ (t : Part) (v : Picture) (seq g : ℕ) (buffer : List ℕ) where
-  written : Option ℕ → List ℕ
-  written r = cond (is_none r) (packet t v seq g ++ drop (length (packet t v seq g)) buffer) buffer
+  then : Option ℕ → List ℕ
+  then r = cond (is_none r) (packet t v seq g ++ drop (length (packet t v seq g)) buffer) buffer
 
   pub buffer_kept : {row : ℕ} → draw_refusal t v seq g (length buffer) ≡ Some row → buffer ≡ buffer_after t v seq g buffer
-  unfolding written
-  buffer_kept e = ap written (sym e)
+  unfolding then
+  buffer_kept e = ap then (sym e)
 
   pub buffer_written : draw_refusal t v seq g (length buffer) ≡ None
       → packet t v seq g ++ drop (length (packet t v seq g)) buffer ≡ buffer_after t v seq g buffer
-  unfolding written
-  buffer_written e = ap written (sym e)
+  unfolding then
+  buffer_written e = ap then (sym e)
 
--- what follows a packet as it was planned
-pub drawn_as_planned : {K : Type 0} (kind : K → Kind) (v : Picture) (s : State K) (room : ℕ) (p : Plan)
-    → Written (part_of kind s.part) v s.sequence s.group room p → Ok (after_plan s p) ≡ drawing kind v s room
-drawn_as_planned kind v s room p w =
+-- what is behind a packet as it was written
+pub drawn_as_written : {K : Type 0} (kind : K → Kind) (v : Picture) (s : State K) (room : ℕ) (w : Written)
+    → draw_refusal (part_of kind s.part) v s.sequence s.group room ≡ None → w ≡ written (part_of kind s.part) v s.sequence s.group
+    → Ok (after_written s w) ≡ drawing kind v s room
+drawn_as_written kind v s room w none is =
     let t = part_of kind s.part in
-    let seq : ℕ = next_sequence s.sequence in
-    let b : Bool = is_last t s.group in
-    let next : ℕ = after_packet t s.group in
     let n : ℕ = length (packet t v s.sequence s.group) in
-    let F : Bool → ℕ → ℕ → Outcome _ = λ b next n.
-    cond b (last seq n) (more (record { part = s.part; sequence = seq; group = next }) n) in
-    let long : p.octets ≡ n = sym (planned_length (limits w.tested) v s.sequence w.planned) in
-    ap Ok (ap (λ b. F b p.next p.octets) w.planned.last
-    ∙ ap (λ x. F b x p.octets) w.planned.next
-    ∙ ap (F b next) long)
-    ∙ ap (λ r. refused_or r s (F b next n)) (sym w.allowed)
+    let o = cond (is_last t s.group) (last (next_sequence s.sequence) n)
+    (more (record { part = s.part; sequence = next_sequence s.sequence; group = after_packet t s.group }) n) in
+    ap Ok (ap (after_written s) is ∙ go (is_last t s.group) n (after_packet t s.group)) ∙ ap (λ r. refused_or r s o) (sym none)
+  where
+    go : (b : Bool) (n next : ℕ) → outcome_of s n (cond b None (Some next))
+        ≡ cond b (last (next_sequence s.sequence) n) (more (record { part = s.part; sequence = next_sequence s.sequence; group = next }) n)
+    go true n next = refl
+    go false n next = refl
+
+-- a draw that is not refused has a lawful format
+pub lawful_when : (t : Part) (v : Picture) (seq g room : ℕ) → draw_refusal t v seq g room ≡ None → lawful_format t.format ≡ true
+lawful_when t v seq g room e = go (lawful_format t.format) (fits_part v t) (ltb room (length (packet t v seq g))) e
+  where
+    go : (a b c : Bool) → first_row ((not a, 4) ∷ (not b, 6) ∷ (c, 19) ∷ []) ≡ None → a ≡ true
+    go true b c e = refl
+    go false b c e = absurd (let z : ◌≡◌ {A = ℕ} 0 1 = cc in omega arith)
+
+pub written_as : (t : Part) (v : Picture) (seq g : ℕ) {n : ℕ} {next : Option ℕ} → n ≡ length (packet t v seq g) → next ≡ following t g
+    → ◌≡◌ {A = Written} (record { octets = n; next = next }) (written t v seq g)
+written_as t v seq g {n} {next} en e =
+    let F : ℕ → Option ℕ → Written = λ m r. record { octets = m; next = r } in
+    ap (λ m. F m next) en ∙ ap (F (length (packet t v seq g))) e
+
+-- a draw that is refused
+pub refused_as : {K : Type 0} (kind : K → Kind) (v : Picture) (s : State K) (room : ℕ) {n : ℕ}
+    → draw_refusal (part_of kind s.part) v s.sequence s.group room ≡ Some n → Err (s, n) ≡ drawing kind v s room
+refused_as kind v s room e =
+    let t = part_of kind s.part in
+    let n : ℕ = length (packet t v s.sequence s.group) in
+    let o = cond (is_last t s.group) (last (next_sequence s.sequence) n)
+    (more (record { part = s.part; sequence = next_sequence s.sequence; group = after_packet t s.group }) n) in
+    ap (λ r. refused_or r s o) (sym e)

@@ -1,16 +1,16 @@
 -- What the answer of a draw tells its caller, and why drawing comes to an end.
-use Rattle.std.proofs.Common.{◌≡◌, ℕ, ◌-◌, ◌<◌, Bool, true, false, cond, not, ltb, [], ◌∷◌, length, Some, None, Ok, Option, refl, ap, arith}
+use Rattle.std.proofs.Common.{◌≡◌, ℕ, ◌-◌, ◌<◌, Bool, true, false, cond, length, Some, None, Ok, Option, refl, ap, arith}
 use Rattle.std.proofs.lemmas.Bool.{leb-false}
 use Rattle.formats.specs.Meaning.{part_of}
-use Rattle.theory.specs.Answers.{first_row}
 use Rattle.theory.specs.Layouts.{Kind, LawfulKind}
-use Rattle.theory.specs.Formats.{Part, groups, lawful_format}
-use Rattle.theory.specs.Pictures.{Picture, fits_part}
+use Rattle.theory.specs.Formats.{Part, groups}
+use Rattle.theory.specs.Pictures.{Picture}
 use Rattle.theory.specs.Cutting.{packet, is_last, after_packet, next_sequence, draw_refusal}
 use Rattle.theory.proofs.Written.{after_more}
 use Rattle.sender.specs.declared.sending.Sending.{Sending}
 use Rattle.sender.specs.Drawing.{State, more, last, state_of, refused_or, drawing}
 use Rattle.sender.specs.Tested.{Tested}
+use Rattle.sender.proofs.Outcomes.{lawful_when}
 use Rattle.sender.proofs.Sizes.{limits}
 
 -- a packet of n octets was drawn in state s, and the part goes on from the state `next`
@@ -43,11 +43,6 @@ more_told {K} kind v s next room n e =
     go None true seq m then e = absurd (let z : ◌≡◌ {A = ℕ} 0 1 = cc in omega arith)
     go (Some row) b seq m then e = absurd (let z : ◌≡◌ {A = ℕ} 0 1 = cc in omega arith)
 
--- a draw that is not refused has a lawful format
-lawful_when : (a b c : Bool) → first_row ((not a, 4) ∷ (not b, 6) ∷ (c, 19) ∷ []) ≡ None → a ≡ true
-lawful_when true b c e = refl
-lawful_when false b c e = absurd (let z : ◌≡◌ {A = ℕ} 0 1 = cc in omega arith)
-
 -- with each packet fewer groups are left: the measure of a loop that draws to the end of a part
 pub nearer : {K : Type 0} (kind : K → Kind) → ((x : K) → LawfulKind (kind x)) → (v : Picture) (s next : Sending K) (room n : ℕ)
     → Ok (more (state_of next) n) ≡ drawing kind v (state_of s) room
@@ -55,13 +50,8 @@ pub nearer : {K : Type 0} (kind : K → Kind) → ((x : K) → LawfulKind (kind 
 nearer kind laws v s next room n e =
     let t : Part = part_of kind s.part in
     let w = more_told kind v (state_of s) (state_of next) room n e in
-    let short : Bool = ltb room (length (packet t v s.sequence s.group)) in
-    let tested : Tested t = record {
-      lawful_kind = laws s.part.format.kind;
-      format_allowed = lawful_when (lawful_format t.format) (fits_part v t) short w.allowed;
-      field_allowed = s.allowed;
-    } in
+    let tested : Tested t = record { format_allowed = lawful_when t v s.sequence s.group room w.allowed; field_allowed = s.allowed } in
     let inside : after_packet t s.group < groups t = leb-false (groups t) (after_packet t s.group) w.not_last in
-    let further = after_more t (limits tested) s.group (omega arith) in
+    let further = after_more t (limits (laws s.part.format.kind) tested) s.group (omega arith) in
     let same : groups (part_of kind next.part) ≡ groups t = ap (λ p. groups (part_of kind p)) w.part in
     omega (arith, w.group)

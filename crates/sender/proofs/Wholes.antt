@@ -1,5 +1,5 @@
 -- Packet after packet, to the end of a part.
-use Rattle.std.proofs.Common.{◌≡◌, ℕ, zero, suc, ◌+◌, ◌-◌, ◌<◌, ◌≤◌, Bool, true, false, cond, List, [], ◌∷◌, ◌++◌, length, take, drop, Ok, sym, refl, ap, ◌∙◌, subst, ⊎_elim, append_assoc, arith}
+use Rattle.std.proofs.Common.{◌≡◌, ℕ, zero, suc, ◌+◌, ◌-◌, ◌<◌, ◌≤◌, Bool, true, false, cond, not, is_some, List, [], ◌∷◌, ◌++◌, length, take, drop, Some, None, Ok, Option, sym, refl, ap, ◌∙◌, subst, ⊎_elim, append_assoc, arith}
 use Rattle.std.proofs.lemmas.List.{take_at}
 use Rattle.std.proofs.lemmas.Bool.{cases_Bool, cond-true, cond-false, leb-false}
 use Rattle.theory.specs.Formats.{Part, groups}
@@ -7,11 +7,10 @@ use Rattle.theory.specs.Pictures.{Picture}
 use Rattle.theory.specs.Cutting.{packet, is_last, after_packet, next_sequence, packets_from, whole_part}
 use Rattle.theory.proofs.Limits.{Limits, groups_pos}
 use Rattle.theory.proofs.Written.{after_more}
-use Rattle.sender.specs.declared.plan.Plan.{Plan}
 use Rattle.sender.specs.declared.sending.Step.{Step}
 use Rattle.sender.specs.declared.sending.Step.TheVariants.{More, Last}
-use Rattle.sender.specs.Drawing.{State, more, last, step_of}
-use Rattle.sender.specs.Plans.{after_plan}
+use Rattle.sender.specs.Drawing.{State, step_of}
+use Rattle.sender.specs.Plans.{following, outcome_of}
 use Rattle.sender.specs.Wholes.{Drawn, opened, drawn, IfLast}
 
 module _ (t : Part) (w : Limits t) (v : Picture) where
@@ -78,16 +77,26 @@ module _ (t : Part) (w : Limits t) (v : Picture) where
 pub front : (q old out : List ℕ) (n : ℕ) → length q ≡ n → out ≡ q ++ drop (length q) old → take n out ≡ q
 front q old out n e is = ap (take n) is ∙ take_at q (drop (length q) old) n e
 
--- a step as planned is the last one where the plan says so
-pub at_last : {K : Type 0} (r : Step K) (P : ℕ → Type 0) (s : State K) (p : Plan) → step_of r ≡ after_plan s p
-    → (p.last ≡ true → P p.octets) → IfLast (Ok r) P
-at_last (More x n) P s p e h = tt
-at_last (Last x n) P s p e h = go p.last h e
+-- a step is the last one where no packet follows
+pub at_last : {K : Type 0} (r : Step K) (P : ℕ → Type 0) (s : State K) (n : ℕ) (next : Option ℕ) → step_of r ≡ outcome_of s n next
+    → (next ≡ None → P n) → IfLast (Ok r) P
+at_last (More x m) P s n next e h = tt
+at_last (Last x m) P s n None e h = let z : n ≡ m = cc in subst P z (h refl)
+at_last (Last x m) P s n (Some g) e h = absurd (let z : ◌≡◌ {A = ℕ} 0 1 = cc in omega arith)
+
+pub last_when : (t : Part) (g : ℕ) → following t g ≡ None → is_last t g ≡ true
+last_when t g e = go (is_last t g) e
   where
-    go : (b : Bool) → (b ≡ true → P p.octets)
-        → last x.sequence n
-        ≡ cond b (last (next_sequence s.sequence) p.octets)
-        (more (record { part = s.part; sequence = next_sequence s.sequence; group = p.next }) p.octets)
-        → P n
-    go true h e = let z : p.octets ≡ n = cc in subst P z (h refl)
-    go false h e = absurd (let z : ◌≡◌ {A = ℕ} 0 1 = cc in omega arith)
+    go : (b : Bool) → cond b None (Some (after_packet t g)) ≡ None → b ≡ true
+    go true e = refl
+    go false e = absurd (let z : ◌≡◌ {A = ℕ} 0 1 = cc in omega arith)
+
+-- no packet follows the last one
+pub none_follows : (t : Part) (g : ℕ) {r : Option ℕ} {b : Bool} → is_some r ≡ not b → r ≡ following t g → b ≡ is_last t g
+none_follows t g {r} {b} e is = go (is_last t g) b (after_packet t g) (ap is_some (sym is) ∙ e)
+  where
+    go : (a b : Bool) (x : ℕ) → is_some (cond a None (Some x)) ≡ not b → b ≡ a
+    go true true x e = refl
+    go true false x e = absurd (let z : ◌≡◌ {A = ℕ} 0 1 = cc in omega arith)
+    go false false x e = refl
+    go false true x e = absurd (let z : ◌≡◌ {A = ℕ} 0 1 = cc in omega arith)

@@ -1,23 +1,21 @@
--- A cut as the code holds it: since segments are consecutive, how many groups each has says all.
-use Rattle.std.specs.Prelude.{◌≡◌, ℕ, ◌+◌, ◌≤◌, List, [], ◌∷◌, length, take}
-use Rattle.theory.specs.Cutting.{Segment, cut_groups}
-use Rattle.sender.specs.declared.cutting.Cut.{Cut}
+-- The segments of a packet, as the code walks through them.
+use Rattle.std.specs.Prelude.{◌≡◌, List, Option}
+use Rattle.std.specs.Iterator.{YieldsFirstBy}
+use Rattle.formats.specs.Meaning.{part_of}
+use Rattle.kinds.specs.declared.kind.GroupKind as GroupKind
+use Rattle.stores.specs.declared.store.Store as Store
+use Rattle.theory.specs.Cutting.{Segment, segments_from}
+use Rattle.sender.specs.declared.cutting.Segments.{Segments}
+use Rattle.sender.specs.declared.cutting.Segment as declared
 
-abbrev pub segment : ℕ → ℕ → Segment
-segment g k = record { first = g; count = k }
+abbrev pub segment_of : declared.Segment → Segment
+segment_of s = record { first = s.first; count = s.count }
 
--- segments of so many groups, one after another from group g on
-abbrev pub consecutive : ℕ → List ℕ → List Segment
-consecutive g [] = []
-consecutive g (k ∷ ks) = segment g k ∷ consecutive (g + k) ks
+-- those that are still to come
+abbrev pub segments_left : {K S : Type 0} {k : GroupKind.Ghosts K} {p : Store.Ghosts S} → Segments K S k p → List Segment
+segments_left {k = k} s = segments_from (part_of k.kind s.source.part.now) s.header s.most s.space s.first
 
--- the groups of each segment of a cut
-abbrev pub counts_of : Cut → List ℕ
-counts_of c = take c.segments c.counts
-
--- the cut holds these segments, the first of which begins at group g
-pub record Holds (c : Cut) (g : ℕ) (ss : List Segment) : Type 0 where
-  pub few : c.segments ≤ 3
-  pub places : length c.counts ≡ 3
-  pub segments : consecutive g (counts_of c) ≡ ss
-  pub groups : c.groups ≡ cut_groups ss
+-- a call of `next` gives the first of them, and the rest are of the same source
+abbrev pub WalksSegments : {K S : Type 0} {k : GroupKind.Ghosts K} {p : Store.Ghosts S} → Segments K S k p → Option declared.Segment → Segments K S k p
+    → Type 0
+WalksSegments s r t = (t.source ≡ s.source) × YieldsFirstBy segment_of segments_left s r t

@@ -3,5 +3,7 @@ pub mod Drawing
 pub mod Fields
 pub mod Plans
 pub mod Rows
+pub mod Runs
+pub mod Sources
 pub mod Tested
 pub mod Wholes

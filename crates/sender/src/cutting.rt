@@ -1,69 +1,86 @@
 //! How a part is cut into packets: the segments of the packet that begins at a group.
 
-ghost use Rattle.std.specs.Prelude.{◌≤◌};
+ghost use Rattle.std.specs.Prelude.{◌≡◌, ◌≤◌};
+ghost use Rattle.std.specs.Iterator.{at_most};
 ghost use Rattle.formats.specs.Meaning.{part_of};
-ghost use Rattle.theory.specs.Cutting.{segments_from, cut as cut_of};
-ghost use Rattle.sender.specs.Cuts.{Holds};
-ghost use Rattle.sender.specs.Tested.{Tested};
+ghost use Rattle.theory.specs.Cutting.{cut as cut_of};
 
 use crate::headers::SEGMENT_HEADER;
-use formats::Part;
+use crate::source::Source;
+use formats::Mode;
 use kinds::GroupKind;
-
-// The mode of a format whose sample row data is cut into blocks.
-const BLOCK: u8 = 2;
+use stores::Store;
 
 // Octets for groups in block mode, and for headers and groups in general mode.
 const BLOCK_SPACE: usize = 1260;
 
 const GENERAL_SPACE: usize = 1438;
 
-/// At most three segments, each beginning where the one before it ends: how many groups each has, and all together.
+// The most segments of a packet.
+const MOST_SEGMENTS: usize = 3;
+
+/// Groups of one unit row.
 #[derive(Clone, Copy)]
-pub(crate) struct Cut {
-    pub(crate) segments: usize,
-    pub(crate) counts: [usize; 3],
-    pub(crate) groups: usize,
+pub(crate) struct Segment {
+    pub(crate) first: usize,
+    pub(crate) count: usize,
 }
 
-impl Cut {
-    /// The cut of the packet that begins at a group.
-    pub(crate) fn at<K: GroupKind>(part: &Part<K>, group: usize) -> Cut
-        requires { Tested (part_of K.GroupKind.kind part.now) }
-        ensures { Holds result group (cut_of (part_of K.GroupKind.kind part.now) group) }
+/// Segments, each beginning where the one before it ends: at most so many from a group on, in so many octets of space, of which each
+/// takes a header and its groups.
+#[derive(Drop)]
+pub(crate) struct Segments<'a, K: GroupKind, S: Store> {
+    pub(crate) source: Source<'a, K, S>,
+    pub(crate) header: usize,
+    pub(crate) space: usize,
+    pub(crate) most: usize,
+    pub(crate) first: usize,
+    ghost small: { space ≤ 1438 },
+}
+
+impl<'a, K: GroupKind, S: Store> Source<'a, K, S> {
+    ghost use Rattle.sender.specs.Cuts.{segments_left};
+
+    /// The segments of the packet that begins at a group.
+    pub(crate) fn segments(&self, first: usize) -> Segments<'a, K, S>
+        ensures part { result.source.part.now ≡ self.now.part.now }
+        ensures segments { segments_left result ≡ cut_of (part_of K.GroupKind.kind self.now.part.now) first }
     {
-        if part.format.mode == BLOCK {
-            fill(part, 0, BLOCK_SPACE, group)
+        let (header, space) = if self.part.format.mode == Mode::Block as u8 {
+            (0, BLOCK_SPACE)
         } else {
-            fill(part, SEGMENT_HEADER, GENERAL_SPACE, group)
+            (SEGMENT_HEADER, GENERAL_SPACE)
+        };
+        Segments {
+            source: *self,
+            header,
+            space,
+            most: MOST_SEGMENTS,
+            first,
         }
     }
 }
 
-// At most three segments from a group on, in so many octets of space, of which each takes its header and its groups.
-fn fill<K: GroupKind>(part: &Part<K>, header: usize, mut space: usize, group: usize) -> Cut
-    requires tested { Tested (part_of K.GroupKind.kind part.now) }
-    requires short { header ≤ 6 }
-    requires small { space ≤ 1438 }
-    ensures { Holds result group (segments_from (part_of K.GroupKind.kind part.now) header 3 space group) }
-{
-    let octets = part.format.group_octets();
-    let row_groups = part.format.row_groups();
-    let groups = part.groups();
-    let mut counts = [0; 3];
-    let mut segments = 0;
-    let mut next = group;
-    while segments < 3 && next < groups && header + octets <= space {
-        let room = (space - header) / octets;
-        let count = room.min(row_groups - next % row_groups);
-        counts[segments] = count;
-        space -= header + count * octets;
-        next += count;
-        segments += 1;
-    }
-    Cut {
-        segments,
-        counts,
-        groups: next - group,
+impl<K: GroupKind, S: Store> Iterator for Segments<'_, K, S> {
+    ghost use Rattle.sender.specs.Cuts.{WalksSegments};
+
+    type Item = Segment;
+
+    ghost next_gives = { WalksSegments };
+
+    ghost remaining = { λ s. at_most s.most };
+
+    fn next(&mut self) -> Option<Segment> {
+        let source = self.source;
+        let first = self.first;
+        let room = self.space.saturating_sub(self.header) / source.octets;
+        if self.most == 0 || source.groups <= first || room == 0 {
+            return None;
+        }
+        let count = room.min(source.row_groups - first % source.row_groups);
+        self.space -= self.header + count * source.octets;
+        self.most -= 1;
+        self.first += count;
+        Some(Segment { first, count })
     }
 }

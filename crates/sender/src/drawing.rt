@@ -4,15 +4,23 @@ ghost use Rattle.std.specs.Prelude.{◌≡◌, ℕ, List, [], ◌∷◌, ◌++�
 ghost use Rattle.formats.specs.Meaning.{part_of};
 ghost use Rattle.theory.specs.Cutting.{buffer_after, whole_part};
 ghost use Rattle.sender.specs.Drawing.{state_of, opening, answered, step_of, stepped, drawing};
-ghost use Rattle.sender.specs.Plans.{after_plan, Drew};
+ghost use Rattle.sender.specs.Plans.{Drew, after_written};
 ghost use Rattle.sender.specs.Wholes.{Drawn, IfLast};
 
 use crate::plan::Plan;
 use crate::sending::{Sending, Sent, Step};
+use crate::source::Source;
 use formats::{Format, Part};
 use kinds::GroupKind;
 use refusals::Refusal;
-use stores::{Store, fits};
+use stores::Store;
+
+/// A packet that was written: how many octets it has, and the first group of the next one, or none where it is the last of its part.
+#[derive(Clone, Copy)]
+pub(crate) struct Written {
+    pub(crate) octets: usize,
+    pub(crate) next: Option<usize>,
+}
 
 impl<K: GroupKind + Copy> Sending<K> {
     /// A part before its first packet, which has this sequence number: refusal 4 outside the limits, then 5 for a field that the format
@@ -50,42 +58,46 @@ impl<K: GroupKind + Copy> Sending<K> {
         ensures whole { let t = part_of K.GroupKind.kind self.part in let v = S.Store.picture store.now in IfLast result (λ n. (first : ℕ) (packets : List (List ℕ)) → Drawn t v first packets self.sequence self.group → packets ++ (take n buffer.new ∷ []) ≡ whole_part t v first) }
     {
         match self.draw(store, buffer) {
-            Ok(plan) => Ok(self.after(&plan)),
+            Ok(written) => Ok(self.after(written)),
             Err(refusal) => Err((self, refusal)),
         }
     }
 
-    // Writes the next packet as it is planned.
-    fn draw<S: Store>(&self, store: &S, buffer: &mut [u8]) -> Result<Plan, Refusal>
+    // Writes the next packet.
+    fn draw<S: Store>(&self, store: &S, buffer: &mut [u8]) -> Result<Written, Refusal>
         ensures answer { Drew (part_of K.GroupKind.kind self.now.part) (S.Store.picture store.now) self.now.sequence self.now.group (length buffer.old) result }
         ensures buffer { buffer.new ≡ buffer_after (part_of K.GroupKind.kind self.now.part) (S.Store.picture store.now) self.now.sequence self.now.group buffer.old }
     {
-        let part = &self.part;
-        part.format.check()?;
-        if !fits(part, store) {
-            return Err(Refusal::StoreOrMapUnfit);
-        }
-        let plan = Plan::at(part, self.group);
-        if buffer.len() < plan.octets {
+        let source = Source::new(&self.part, store)?;
+        let plan = Plan::at(source, self.group);
+        let octets = plan.octets();
+        if buffer.len() < octets {
             return Err(Refusal::BufferTooShort);
         }
-        plan.write(part, store, self.sequence, self.group, buffer);
-        Ok(plan)
+        plan.write(self.sequence, &mut buffer[..octets]);
+        Ok(Written {
+            octets,
+            next: plan.next(),
+        })
     }
 
     // The state behind a packet.
-    fn after(self, plan: &Plan) -> Step<K>
-        ensures { step_of result ≡ after_plan (state_of self) plan.now }
+    fn after(self, written: Written) -> Step<K>
+        ensures { step_of result ≡ after_written (state_of self) written }
     {
+        let Written { octets, next } = written;
         let sequence = self.sequence.wrapping_add(1);
-        if plan.last {
-            return Step::Last(Sent { sequence }, plan.octets);
+        // Each field by name: a struct with a ghost field takes no `..self`.
+        match next {
+            Some(group) => Step::More(
+                Sending {
+                    part: self.part,
+                    sequence,
+                    group,
+                },
+                octets,
+            ),
+            None => Step::Last(Sent { sequence }, octets),
         }
-        let rest = Sending {
-            part: self.part,
-            sequence,
-            group: plan.next,
-        };
-        Step::More(rest, plan.octets)
     }
 }

@@ -6,9 +6,11 @@ mod depth;
 mod drawing;
 mod groups;
 mod headers;
+mod packing;
 mod plan;
 mod rows;
 mod runs;
 mod sending;
+mod source;
 
 pub use sending::{Sending, Sent, Step};

@@ -1,76 +1,81 @@
 //! A packet before it is written, and the writing of it.
 
-ghost use Rattle.std.specs.Prelude.{◌≡◌, ◌≤◌, true, ◌++◌, length, drop};
+ghost use Rattle.std.specs.Prelude.{◌≡◌, ℕ, ◌+◌, ◌*◌, length};
 ghost use Rattle.formats.specs.Meaning.{part_of};
-ghost use Rattle.theory.specs.Pictures.{fits_part};
-ghost use Rattle.theory.specs.Cutting.{packet};
-ghost use Rattle.sender.specs.Plans.{Planned};
-ghost use Rattle.sender.specs.Tested.{Tested};
+ghost use Rattle.theory.specs.Pictures.{Picture};
+ghost use Rattle.theory.specs.Cutting.{cut as cut_of, cut_groups, packet};
+ghost use Rattle.sender.specs.Plans.{following};
 
-use crate::cutting::Cut;
-use crate::groups::write_groups;
-use crate::headers::{PACKET_HEADER, SEGMENT_HEADER, packet_header, write_headers};
-use formats::Part;
+use crate::headers::{PACKET_HEADER, SEGMENT_HEADER};
+use crate::source::Source;
 use kinds::GroupKind;
 use stores::Store;
 
-/// The segments of a packet, the group behind it, whether it is the last of its part, where the groups' octets begin, and how many octets it has.
-#[derive(Clone, Copy)]
-pub(crate) struct Plan {
-    pub(crate) cut: Cut,
-    pub(crate) next: usize,
-    pub(crate) last: bool,
-    pub(crate) start: usize,
-    pub(crate) octets: usize,
+/// A packet of a source: its first group, and how many segments and groups it has.
+#[derive(Drop)]
+pub(crate) struct Plan<'a, K: GroupKind, S: Store> {
+    pub(crate) source: Source<'a, K, S>,
+    pub(crate) first: usize,
+    pub(crate) segments: usize,
+    pub(crate) groups: usize,
+    ghost segments_are: { segments ≡ length (cut_of (part_of K.GroupKind.kind source.part.now) first) },
+    ghost groups_are: { groups ≡ cut_groups (cut_of (part_of K.GroupKind.kind source.part.now) first) },
 }
 
-impl Plan {
-    /// The plan of the packet that begins at a group.
-    pub(crate) fn at<K: GroupKind>(part: &Part<K>, group: usize) -> Plan
-        requires { Tested (part_of K.GroupKind.kind part.now) }
-        ensures { Planned (part_of K.GroupKind.kind part.now) group result }
+impl<'a, K: GroupKind, S: Store> Plan<'a, K, S> {
+    /// The packet that begins at a group.
+    pub(crate) fn at(source: Source<'a, K, S>, first: usize) -> Self
+        ensures source { result.source ≡ source.entry }
+        ensures first { result.first ≡ first }
     {
-        let cut = Cut::at(part, group);
-        let next = group + cut.groups;
-        let start = PACKET_HEADER + SEGMENT_HEADER * cut.segments;
+        let mut segments = 0;
+        let mut groups = 0;
+        for segment in source.segments(first) {
+            segments += 1;
+            groups += segment.count;
+        }
         Plan {
-            cut,
-            next,
-            last: part.groups() <= next,
-            start,
-            octets: start + cut.groups * part.format.group_octets(),
+            source,
+            first,
+            segments,
+            groups,
         }
     }
 
-    /// Writes the packet at the start of a buffer.
-    pub(crate) fn write<K: GroupKind, S: Store>(
-        &self,
-        part: &Part<K>,
-        store: &S,
-        sequence: u32,
-        group: usize,
-        buffer: &mut [u8],
-    )
-        requires tested { Tested (part_of K.GroupKind.kind part.now) }
-        requires fits { fits_part (S.Store.picture store.now) (part_of K.GroupKind.kind part.now) ≡ true }
-        requires planned { Planned (part_of K.GroupKind.kind part.now) group self.now }
-        requires room { self.now.octets ≤ length buffer.old }
-        ensures { let q = packet (part_of K.GroupKind.kind part.now) (S.Store.picture store.now) sequence group in buffer.new ≡ q ++ drop (length q) buffer.old }
+    /// The first group of the packet behind it; none where it is the last of its part.
+    pub(crate) fn next(&self) -> Option<usize>
+        ensures { result ≡ following (part_of K.GroupKind.kind self.now.source.part.now) self.now.first }
     {
-        let header = packet_header(part, sequence, self.last);
-        buffer[0..PACKET_HEADER].copy_from_slice(&header);
-        write_headers(
-            part,
-            &self.cut,
-            group,
-            &mut buffer[PACKET_HEADER..self.start],
-        );
-        write_groups(
-            part,
-            store,
-            group,
-            self.cut.groups,
-            &mut buffer[self.start..self.octets],
-        );
+        let next = self.first + self.groups;
+        (next < self.source.groups).then_some(next)
+    }
+
+    // Where the groups' octets begin: behind the headers.
+    fn start(&self) -> usize
+        ensures { result ≡ 14 + 6 * self.now.segments }
+    {
+        PACKET_HEADER + SEGMENT_HEADER * self.segments
+    }
+
+    /// How many octets it has.
+    pub(crate) fn octets(&self) -> usize
+        ensures { (v : Picture) (seq : ℕ) → result ≡ length (packet (part_of K.GroupKind.kind self.now.source.part.now) v seq self.now.first) }
+    {
+        self.start() + self.groups * self.source.octets
+    }
+
+    /// Writes it.
+    pub(crate) fn write(&self, sequence: u32, out: &mut [u8])
+        requires { length out.old ≡ length (packet (part_of K.GroupKind.kind self.now.source.part.now) (S.Store.picture self.now.source.store.now) sequence self.now.first) }
+        ensures { out.new ≡ packet (part_of K.GroupKind.kind self.now.source.part.now) (S.Store.picture self.now.source.store.now) sequence self.now.first }
+    {
+        let source = &self.source;
+        let start = self.start();
+        let (headers, groups) = out.split_at_mut(start);
+        let (front, segments) = headers.split_at_mut(PACKET_HEADER);
+        let octets = source.packet_header(sequence, self.next().is_none());
+        front.copy_from_slice(&octets);
+        source.segments(self.first).write_headers(segments);
+        source.write_groups(self.first, self.groups, groups);
     }
 }

@@ -1,82 +1,63 @@
 //! The samples of a run of groups, shown row by row into words.
 
-ghost use Rattle.std.specs.Prelude.{◌≡◌, ℕ, ◌<◌, length};
+ghost use Rattle.std.specs.Prelude.{◌≡◌, ◌*◌, ◌<◌, length};
 ghost use Rattle.formats.specs.Meaning.{part_of};
-ghost use Rattle.sender.specs.Rows.{row_samples, ShortRun, HoldsPlane, HoldsRun};
-ghost use Rattle.sender.specs.Tested.{Tested};
+ghost use Rattle.theory.specs.Layouts.{group_width};
+ghost use Rattle.theory.specs.Formats.{layout_of};
+ghost use Rattle.sender.specs.Rows.{row_samples, HoldsRow, HoldsPlane, HoldsRun};
 
-use formats::Part;
+use crate::runs::Run;
 use kinds::GroupKind;
 use stores::Store;
 
-/// The most groups of a run.
-pub(crate) const MOST_GROUPS: usize = 64;
-
-/// The words of a row: a group has at most 8 columns.
+/// The most words of a row: a group has at most 8 columns.
 pub(crate) const ROW: usize = 512;
 
-/// The words of a plane: a group has at most 2 rows.
-pub(crate) const PLANE: usize = 1024;
+/// The most rows of a group.
+pub(crate) const ROWS: usize = 2;
 
-/// The words of 3 planes, which is the most.
-pub(crate) const WORDS: usize = 3072;
+/// The most planes.
+pub(crate) const PLANES: usize = 3;
 
-/// Groups of one unit row, from a place there on.
-#[derive(Clone, Copy)]
-pub(crate) struct Run {
-    pub(crate) unit_row: usize,
-    pub(crate) place: usize,
-    pub(crate) groups: usize,
-}
+/// Words for the samples of a run: planes of rows.
+pub(crate) type Words = [[[u16; ROW]; ROWS]; PLANES];
 
-/// Shows the samples of a run.
-pub(crate) fn show_run<K: GroupKind, S: Store>(
-    part: &Part<K>,
-    store: &S,
-    run: Run,
-    words: &mut [u16],
-)
-    requires tested { Tested (part_of K.GroupKind.kind part.now) }
-    requires short { ShortRun run.unit_row run.place run.groups }
-    requires room { length words.old ≡ 3072 }
-    ensures { HoldsRun (part_of K.GroupKind.kind part.now) (S.Store.picture store.now) run.unit_row run.place run.groups words.new }
-{
-    for plane in 0..part.format.kind.plane_count() {
-        let start = plane * PLANE;
-        show_plane(part, store, run, plane, &mut words[start..start + PLANE]);
+impl<K: GroupKind, S: Store> Run<'_, K, S> {
+    /// Shows the samples of the run.
+    pub(crate) fn show(&self, words: &mut Words)
+        ensures { HoldsRun (part_of K.GroupKind.kind self.now.source.part.now) (S.Store.picture self.now.source.store.now) self.now.unit_row self.now.place self.now.groups words.new }
+    {
+        let planes = self.source.part.format.kind.plane_count();
+        for (plane, rows) in words[..planes].iter_mut().enumerate() {
+            self.show_plane(plane, rows);
+        }
     }
-}
 
-// Shows those of a plane.
-fn show_plane<K: GroupKind, S: Store>(
-    part: &Part<K>,
-    store: &S,
-    run: Run,
-    plane: usize,
-    words: &mut [u16],
-)
-    requires tested { Tested (part_of K.GroupKind.kind part.now) }
-    requires short { ShortRun run.unit_row run.place run.groups }
-    requires inside { plane < (part_of K.GroupKind.kind part.now).format.kind.planes }
-    requires room { length words.old ≡ 1024 }
-    ensures { HoldsPlane (part_of K.GroupKind.kind part.now) (S.Store.picture store.now) run.unit_row run.place run.groups plane words.new 0 }
-{
-    let kind = &part.format.kind;
-    let depth = part.format.depth;
-    let height = kind.group_rows() / kind.row_step(depth, plane);
-    let width = kind.columns(depth) / kind.column_step(depth, plane);
-    let first = run.unit_row * height;
-    let column = run.place * width;
-    let samples = run.groups * width;
-    for d in 0..height {
-        let start = d * ROW;
-        show_row(
-            store,
-            plane,
-            first + d,
-            column,
-            &mut words[start..start + samples],
-        );
+    // Shows those of a plane.
+    fn show_plane(&self, plane: usize, rows: &mut [[u16; ROW]; ROWS])
+        requires { plane < (part_of K.GroupKind.kind self.now.source.part.now).format.kind.planes }
+        ensures { HoldsPlane (part_of K.GroupKind.kind self.now.source.part.now) (S.Store.picture self.now.source.store.now) self.now.unit_row self.now.place self.now.groups plane rows.new }
+    {
+        let format = &self.source.part.format;
+        let height = format.kind.group_rows() / format.kind.row_step(format.depth, plane);
+        let first = self.unit_row * height;
+        for (d, row) in rows[..height].iter_mut().enumerate() {
+            self.show_columns(plane, first + d, row);
+        }
+    }
+
+    // Shows those of a row.
+    fn show_columns(&self, plane: usize, row: usize, words: &mut [u16])
+        requires inside { plane < (part_of K.GroupKind.kind self.now.source.part.now).format.kind.planes }
+        requires room { length words.old ≡ 512 }
+        ensures { let t = part_of K.GroupKind.kind self.now.source.part.now in let width = group_width (layout_of t.format) plane in HoldsRow (S.Store.picture self.now.source.store.now) plane row (self.now.place * width) (self.now.groups * width) words.new }
+    {
+        let format = &self.source.part.format;
+        let width = format.kind.columns(format.depth)
+            / format.kind.column_step(format.depth, plane);
+        let column = self.place * width;
+        let samples = self.groups * width;
+        show_row(self.source.store, plane, row, column, &mut words[..samples]);
     }
 }
 

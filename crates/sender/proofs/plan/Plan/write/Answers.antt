@@ -1,37 +1,57 @@
-use Rattle.std.proofs.Common.{◌≡◌, ◌*◌, ◌++◌, length, drop, sym, ap, ◌∙◌, inl, inr, arith, rules}
+use Rattle.std.proofs.Common.{◌≡◌, ◌*◌, ◌/◌, ◌++◌, ap, ◌∙◌, inl, inr, arith}
+use Rattle.std.specs.List.{range_with_len}
 use Rattle.formats.specs.Meaning.{part_of}
-use Rattle.theory.specs.Cutting.{packet}
-use Rattle.sender.proofs.Packets.{near_or_none, headers_length, planned_length, packet_parts, three_parts}
+use Rattle.theory.specs.Octets.{octets16}
+use Rattle.theory.specs.Formats.{layout_of}
+use Rattle.theory.specs.Groups.{group_octets}
+use Rattle.theory.specs.Cutting.{cut, cut_groups, rtp_header, srd_headers, concat_map}
+use Rattle.sender.specs.Cuts.{segments_left}
+use Rattle.sender.proofs.Cuts.{near_or_none}
+use Rattle.sender.proofs.Packets.{packet_length, packet_parts}
 use Rattle.sender.proofs.Sizes.{limits}
+use Rattle.sender.proofs.Wholes.{none_follows}
 use Rattle.sender.proofs.plan.Plan.write.Goals as goal
 
-pub write_groups-requires : goal.write_groups-requires
-write_groups-requires g c = record {
-  tested = c.requires.tested;
-  fits = c.requires.fits;
-  small = λ i h. elim (near_or_none (limits c.requires.tested) c.args.group) [
-    | inl e ↦ absurd (omega (arith, c.requires.planned.cut.groups))
-    | inr near ↦ omega (arith, c.requires.planned.cut.groups)
-  ];
-  room = search rules;
-}
+pub split_at_mut-headers-requires : goal.split_at_mut-headers-requires
+split_at_mut-headers-requires g c =
+    let p = c.args.self.now in
+    let s = p.source in
+    let w = limits (g.met.K.GroupKind.lawful s.part.now.format.kind) s.tested in
+    let long = packet_length w (g.S.Store.picture s.store.now) c.args.sequence p.first in
+    omega (arith, c.requires ∙ long, c.start-start.ensures, p.segments_are)
+
+pub write_groups-requires-clause-small : goal.write_groups-requires-clause-small
+write_groups-requires-clause-small g c i h =
+    let p = c.args.self.now in
+    let w = limits (g.met.K.GroupKind.lawful p.source.part.now.format.kind) p.source.tested in
+    elim (near_or_none w p.first) [
+      | inl e ↦ absurd (omega (arith, p.groups_are))
+      | inr near ↦ omega (arith, p.groups_are)
+    ]
+
+pub write_groups-requires-clause-room : goal.write_groups-requires-clause-room
+write_groups-requires-clause-room g c =
+    let p = c.args.self.now in
+    let s = p.source in
+    let t = part_of g.K.GroupKind.kind s.part.now in
+    let w = limits (g.met.K.GroupKind.lawful s.part.now.format.kind) s.tested in
+    let long = packet_length w (g.S.Store.picture s.store.now) c.args.sequence p.first in
+    let octets : p.groups * s.octets ≡ cut_groups (cut t p.first) * (layout_of t.format).octets =
+    ap (λ x. x * s.octets) p.groups_are ∙ ap (λ x. cut_groups (cut t p.first) * x) s.octets_are in
+    omega (arith, c.requires ∙ long, c.start-start.ensures, p.segments_are, c.split_at_mut-headers.ensures.back_len)
 
 pub returns : goal.returns
 returns g c =
-    let t = part_of g.K.GroupKind.kind c.args.part.now in
-    let v = g.S.Store.picture c.args.store.now in
-    let w = limits c.requires.tested in
     let p = c.args.self.now in
-    let planned = c.requires.planned in
+    let s = p.source in
+    let t = part_of g.K.GroupKind.kind s.part.now in
+    let v = g.S.Store.picture s.store.now in
+    let w = limits (g.met.K.GroupKind.lawful s.part.now.format.kind) s.tested in
     let seq = c.args.sequence in
-    let old = c.args.buffer.now in
-    let xs = c.copy_from_slice.new.self in
-    let ys = c.write_headers.new.out in
-    let zs = c.write_groups.new.out in
-    let head = c.copy_from_slice.ensures.after ∙ c.packet_header-header.ensures in
-    let long : length xs ≡ 14 = ap length head in
-    let heads : length ys ≡ 6 * p.cut.segments = ap length c.write_headers.ensures ∙ headers_length w v seq planned in
-    three_parts xs ys zs old 14 p.start p.octets long (omega (arith, planned.start)) (omega (arith, planned.start))
-    (omega (arith, planned.octets))
-    ∙ ap (λ q. q ++ drop p.octets old) (packet_parts w v seq planned xs ys zs head c.write_headers.ensures c.write_groups.ensures)
-    ∙ ap (λ n. packet t v seq c.args.group ++ drop n old) (sym (planned_length w v seq planned))
+    packet_parts w v seq p.first c.copy_from_slice.new.self c.write_headers.new.out c.write_groups.new.out
+    (c.copy_from_slice.ensures.after ∙ c.packet_header-octets.ensures
+    ∙ ap (λ b. rtp_header t seq b ++ octets16 (seq / 65536)) (none_follows t p.first c.is_none.ensures c.next.ensures))
+    (c.write_headers.ensures
+    ∙ ap (λ q. srd_headers (part_of g.K.GroupKind.kind q) (segments_left c.segments.result)) c.segments.ensures.part
+    ∙ ap (srd_headers t) c.segments.ensures.segments)
+    (c.write_groups.ensures ∙ ap (λ n. concat_map (group_octets t v) (range_with_len p.first n)) p.groups_are)
