@@ -96,15 +96,9 @@ impl<F: Family> GroupKind for F {
 
     const ROWS: usize = F::ROWS;
 
-    ghost PLANES = { F.PLANES };
-
-    ghost ROWS = { F.ROWS };
-
     ghost kind = { λ _. F.kind };
 
     ghost lawful = { λ _. F.lawful };
-
-    ghost counts = { λ _. F.counts };
 
     fn plane_count(&self) -> usize {
         F::PLANES

@@ -1,6 +1,6 @@
 //! What a kind of group is: how many octets a group has, what it covers, and which sample stands at each position.
 
-ghost use Rattle.std.specs.Prelude.{◌≡◌, ℕ};
+ghost use Rattle.std.specs.Prelude.{◌≡◌};
 ghost use Rattle.theory.specs.Layouts.{Kind, LawfulKind};
 
 /// A sampling family: how its groups are laid out at each of its depths. Every question answers 0 for another depth, plane or position.
@@ -10,10 +10,6 @@ pub trait GroupKind {
 
     /// The rows that a group covers.
     const ROWS: usize;
-
-    ghost PLANES: { ℕ };
-
-    ghost ROWS: { ℕ };
 
     /// What the kind is, in the words of the definitions.
     ghost kind: { Self → Kind };
@@ -60,7 +56,4 @@ pub trait GroupKind {
 
     /// The laws of a kind, owed by each implementation.
     ghost lawful: { (x : Self) → LawfulKind (kind x) };
-
-    /// The constants are the kind's.
-    ghost counts: { (x : Self) → (PLANES ≡ (kind x).planes) × (ROWS ≡ (kind x).rows) };
 }
