@@ -16,7 +16,7 @@ use Rattle.theory.proofs.Filling.{filled_same}
 use Rattle.theory.proofs.Maps.{marked_same}
 use Rattle.theory.proofs.Named.{count_same}
 use Rattle.theory.proofs.Searches.{none_below_at}
-use Rattle.receiver.specs.Filling.{GroupsPut, InPart, clear_of, named, packet_value, run, run_value, start_of}
+use Rattle.receiver.specs.Filling.{GroupsPut, SegmentPut, InPart, clear_of, named, packet_value, run, run_value}
 use Rattle.receiver.proofs.Puts.{none_put, more_put}
 
 -- the first i segments of a packet were put into a picture v and a map m
@@ -111,12 +111,12 @@ module _ (t : Part) (q : List ℕ) (w : SoundNaming t q) (i : ℕ) (here : i < h
       ∙ ap (λ j. take o (drop (data_start q + lengths q j + (g - segment_start t q j) * o) q)) (sym at)
 
   pub packet_takes : (v : Picture) (m : List ℕ) → groups t ≤ 8 * length m → (now : Picture) (map : List ℕ) (count : ℕ) → PacketSoFar t v m q i now map count
-      → (now' : Picture) (map' : List ℕ) (r : ℕ) → GroupsPut t now map (run (start_of t x) x.groups) (run_value t x.octets (start_of t x)) now' map' r
+      → (now' : Picture) (map' : List ℕ) (r : ℕ) → SegmentPut t now map x now' map' r
       → r ≤ 65535 → PacketSoFar t v m q (i + 1) now' map' (count + r)
   packet_takes v m mapped now map count so_far now' map' r put few =
       let s = segment_start t q i in
       let n = segment_groups t q i in
-      let there = subst (λ y. GroupsPut t now map (run (start_of t y) y.groups) (run_value t y.octets (start_of t y)) now' map' r) is put in
+      let there = subst (λ y. SegmentPut t now map y now' map' r) is put in
       let below : (g : ℕ) → run s n g ≡ true → g < 8 * length m = λ g z.
       let high : g < s + n = ltb-true g (s + n) (and_parts (leb s g) (ltb g (s + n)) z).1 in
       omega (arith, w.in_part i here) in

@@ -1,5 +1,5 @@
 -- Which groups a segment and a packet set, and the values that they have for them.
-use Rattle.std.specs.Prelude.{◌≡◌, ℕ, ◌+◌, ◌-◌, ◌*◌, ◌≤◌, Bool, not, ◌&&◌, List, length, take, drop, nat_le, nat_lt}
+use Rattle.std.specs.Prelude.{◌≡◌, ℕ, ◌+◌, ◌-◌, ◌*◌, ◌≤◌, Bool, not, ◌&&◌, List, length, take, drop, nat_eq, nat_le, nat_lt}
 use Rattle.packets.specs.Reading.{Placed}
 use Rattle.theory.specs.Octets.{any_below, bit, count_below, marked}
 use Rattle.theory.specs.Formats.{Part, layout_of, row_groups, groups}
@@ -26,6 +26,10 @@ pub record InPart (t : Part) (x : Placed) : Type 0 where
 abbrev pub group_value : Part → List ℕ → ℕ → ℕ → ℕ
 group_value t os _ k = value_at (layout_of t.format) t.format.depth os k
 
+-- the picture with the samples that group n has in these octets
+abbrev pub with_group : Part → Picture → ℕ → List ℕ → Picture
+with_group t v n os = filled t v (λ g _. nat_eq g n) (group_value t os)
+
 -- of the groups w, those whose bit is clear
 abbrev pub clear_of : List ℕ → (ℕ → Bool) → ℕ → Bool
 clear_of m w g = w g && not (bit m g)
@@ -43,6 +47,11 @@ run s n g = nat_le s g && nat_lt g (s + n)
 -- the value at position k of group g, from the octets of the groups from s on
 abbrev pub run_value : Part → List ℕ → ℕ → ℕ → ℕ → ℕ
 run_value t os s g k = let o = (layout_of t.format).octets in group_value t (take o (drop ((g - s) * o) os)) g k
+
+-- the same of the groups of a segment, with the samples that they have in its octets
+abbrev pub SegmentPut : Part → Picture → List ℕ → Placed → Picture → List ℕ → ℕ → Type 0
+SegmentPut t v m x now map count =
+    let s = start_of t x in GroupsPut t v m (run s x.groups) (run_value t x.octets s) now map count
 
 -- one of the first n segments of a packet names the group
 abbrev pub named : Part → List ℕ → ℕ → ℕ → Bool

@@ -1,11 +1,11 @@
 //! A group into the picture.
 
-ghost use Rattle.std.specs.Prelude.{◌≡◌, ◌<◌, ◌≤◌, true, length, nat_eq};
+ghost use Rattle.std.specs.Prelude.{◌≡◌, ◌<◌, ◌≤◌, true, length};
 ghost use Rattle.formats.specs.Meaning.{part_of};
 ghost use Rattle.theory.specs.Formats.{layout_of, row_groups};
-ghost use Rattle.theory.specs.Groups.{filled, place_row, place_column};
+ghost use Rattle.theory.specs.Groups.{place_row, place_column};
 ghost use Rattle.theory.specs.Pictures.{fits_part};
-ghost use Rattle.receiver.specs.Filling.{group_at, group_value};
+ghost use Rattle.receiver.specs.Filling.{group_at, with_group};
 
 use formats::Part;
 use kinds::{GroupKind, unpack};
@@ -36,7 +36,8 @@ impl<K: GroupKind> Group<'_, K> {
     pub(crate) fn put<S: Store>(&self, octets: &[u8], store: &mut S)
         requires fits { fits_part (S.Store.picture store.old) (part_of K.GroupKind.kind self.now.part.now) ≡ true }
         requires whole { length octets.now ≡ (layout_of (part_of K.GroupKind.kind self.now.part.now).format).octets }
-        ensures picture { let t = part_of K.GroupKind.kind self.now.part.now in S.Store.picture store.new ≡ filled t (S.Store.picture store.old) (λ g _. nat_eq g (group_at t self.now.unit_row self.now.at)) (group_value t octets.now) }
+        ensures picture { let t = part_of K.GroupKind.kind self.now.part.now in
+            S.Store.picture store.new ≡ with_group t (S.Store.picture store.old) (group_at t self.now.unit_row self.now.at) octets.now }
         ensures rest { S.Store.rest store.new ≡ S.Store.rest store.old }
     {
         let kind = &self.part.format.kind;

@@ -4,7 +4,7 @@ ghost use Rattle.std.specs.Prelude.{◌≡◌, ◌≤◌, None};
 ghost use Rattle.formats.specs.Meaning.{part_of};
 ghost use Rattle.packets.specs.Carried.{placed};
 ghost use Rattle.theory.specs.Taking.{survey_refusal};
-ghost use Rattle.receiver.specs.Filling.{GroupsPut, InPart, run, run_value, start_of};
+ghost use Rattle.receiver.specs.Filling.{InPart, SegmentPut};
 
 use crate::group::Group;
 use crate::map;
@@ -23,7 +23,8 @@ pub(crate) fn put_segment<K: GroupKind, S: Store>(
 ) -> usize
     requires ready { survey_refusal (part_of K.GroupKind.kind part.now) (S.Store.picture store.old) map.old ≡ None }
     requires inside { InPart (part_of K.GroupKind.kind part.now) (placed segment) }
-    ensures put { let t = part_of K.GroupKind.kind part.now in let x = placed segment.entry in GroupsPut t (S.Store.picture store.old) map.old (run (start_of t x) x.groups) (run_value t x.octets (start_of t x)) (S.Store.picture store.new) map.new result }
+    ensures put { let t = part_of K.GroupKind.kind part.now in
+        SegmentPut t (S.Store.picture store.old) map.old (placed segment.entry) (S.Store.picture store.new) map.new result }
     ensures few { result ≤ 65535 }
     ensures rest { S.Store.rest store.new ≡ S.Store.rest store.old }
 {

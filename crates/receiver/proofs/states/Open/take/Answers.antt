@@ -89,7 +89,8 @@ loop-segment-preserved g c =
     let x = placed c.in-Some.segment in
     let next = one_handed_out (carried t q) _ x _ _ w.out c.in-Some.ensures.steps in
     let put = c.put_segment-count in
-    let more : length c.loop-segment.yielded + 1 ≡ length (c.loop-segment.yielded ++ c.in-Some.segment ∷ []) = sym (length-append c.loop-segment.yielded (c.in-Some.segment ∷ [])) in
+    let more : length c.loop-segment.yielded + 1 ≡ length (c.loop-segment.yielded ++ c.in-Some.segment ∷ []) =
+    sym (length-append c.loop-segment.yielded (c.in-Some.segment ∷ [])) in
     record {
       out = subst (λ i. HandedOut (carried t q) i (segments_left c.next.new.self)) more next.2;
       so_far = subst (λ i. PacketSoFar t v m q i (g.S.Store.picture put.new.store) put.new.map (c.loop-segment.count + put.result)) more
