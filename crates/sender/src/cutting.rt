@@ -77,8 +77,7 @@ impl<K: GroupKind, S: Store> Iterator for Segments<'_, K, S> {
         if self.most == 0 || source.groups <= first || room < source.octets {
             return None;
         }
-        let count =
-            (room / source.octets).min(source.row_groups - first % source.row_groups);
+        let count = (room / source.octets).min(source.row_groups - first % source.row_groups);
         self.space -= self.header + count * source.octets;
         self.most -= 1;
         self.first += count;
