@@ -12,14 +12,10 @@ use Rattle.sender.specs.Drawing.{State, more, last, refused_or, drawing}
 use Rattle.sender.specs.Plans.{following, outcome_of, written, after_written}
 use Rattle.sender.specs.Sources.{source_refusal}
 
--- a format's check passes where it is lawful, and refuses with 4
+-- a format's check passes where it is lawful
 pub format_passes : (b : Bool) → ◌≡◌ {A = Result (Unit {0}) ℕ} (Ok tt) (cond b (Ok tt) (Err 4)) → b ≡ true
 format_passes true e = refl
 format_passes false e = absurd (let z : ◌≡◌ {A = ℕ} 0 1 = cc in omega arith)
-
-pub format_refuses : (n : ℕ) (b : Bool) → ◌≡◌ {A = Result (Unit {0}) ℕ} (Err n) (cond b (Ok tt) (Err 4)) → (b ≡ false) × (n ≡ 4)
-format_refuses n true e = absurd (let z : ◌≡◌ {A = ℕ} 0 1 = cc in omega arith)
-format_refuses n false e = (refl, cc)
 
 -- a part's check passes where its format is lawful and has the field, and refuses as an opening does
 module _ (t : Part) where

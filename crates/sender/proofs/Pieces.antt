@@ -1,5 +1,5 @@
 -- Groups that are packed from the samples of a run, and pieces of groups one after another.
-use Rattle.std.proofs.Common.{◌≡◌, ℕ, ◌+◌, ◌*◌, ◌/◌, ◌%◌, ◌^◌, ◌<◌, ◌≤◌, true, List, [], ◌∷◌, ◌++◌, map, length, get_or, take, sym, ap, ◌∙◌, subst, mul-le-mul_right, add-mul, div-le_self, arith}
+use Rattle.std.proofs.Common.{◌≡◌, ℕ, ◌+◌, ◌-◌, ◌*◌, ◌/◌, ◌%◌, ◌^◌, ◌<◌, ◌≤◌, true, List, [], ◌∷◌, ◌++◌, map, length, get_or, take, sym, ap, ◌∙◌, subst, mul-le-mul_right, add-mul, div-le_self, arith}
 use borrow.Rule.Slice.PartMut.{put_mid}
 use Rattle.std.specs.List.{range_with_len}
 use Rattle.std.specs.Int.Digits.{AllBelowBase}
@@ -24,13 +24,26 @@ use Rattle.sender.specs.Rows.{HoldsRun, word_at, words_of}
 pub small_place : (u n s r : ℕ) → u < 2 ^ 32 → n ≤ 8 → r ≤ 8 → u * (n / s) + r < 2 ^ 36
 small_place u n s r hu hn hr = omega (arith, mul-le u (n / s) (2 ^ 32) 8 (omega arith) (omega (arith, div-le_self n s)))
 
--- the octets of so many groups are not many
-pub few_groups_octets : (n o : ℕ) → n ≤ 2 ^ 32 → o ≤ 48 → n * o < 2 ^ 40
-few_groups_octets n o h few = omega (arith, mul-le n o (2 ^ 32) 48 h few)
-
 -- n groups from group i on end in the room of all of them
 pub groups_end : (i n count o : ℕ) {w room : ℕ} → i + n ≤ count → o ≡ w → room ≡ count * w → i * o + n * o ≤ room
 groups_end i n count o h e is = omega (arith, mul-le-mul_right o h, add-mul i n o, ap (λ x. count * x) e)
+
+-- of `count` small groups of o octets each, `done` are written and n come next
+pub record RoomFor (done n count o : ℕ) : Type 0 where
+  pub split : (done + n) * o ≡ done * o + n * o
+  pub small : (done + n) * o < 2 ^ 40
+  pub end : done * o + n * o ≤ count * o
+
+pub room_for : (first done n count o : ℕ) → o ≤ 48 → 0 < n → done + n ≤ count → ((i : ℕ) → i < count → first + i < 2 ^ 32)
+    → RoomFor done n count o
+room_for first done n count o few some more small =
+    let split : (done + n) * o ≡ done * o + n * o = add-mul done n o in
+    let last : done + n ≤ 2 ^ 32 = omega (arith, small (done + n - 1) (omega arith)) in
+    record {
+      split = split;
+      small = omega (arith, mul-le (done + n) o (2 ^ 32) 48 last few);
+      end = omega (arith, mul-le-mul_right o more);
+    }
 
 -- as many samples as a group has, each of the depth, are packed
 pub packed_whole : (l : Layout) (d : ℕ) (xs os : List ℕ) → 0 < l.octets → length os ≡ l.octets → length xs ≡ l.positions → AllBelowBase (2 ^ d) xs

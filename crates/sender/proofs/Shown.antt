@@ -85,9 +85,6 @@ put_to_end a k xs ys h =
 pub short_row : (n a s : ℕ) → n ≤ 64 → a ≤ 8 → n * (a / s) ≤ 512
 short_row n a s h few = mul-le n (a / s) 64 8 h (omega (arith, div-le_self a s))
 
-pub low_row : (a s : ℕ) → a ≤ 2 → a / s ≤ 2
-low_row a s few = omega (arith, div-le_self a s)
-
 -- the samples of a row, before words that stay
 pub row_held : (v : Picture) (p r x n a width m : ℕ) (new rest : List ℕ) → a ≡ width → m ≡ n * a → new ≡ row_samples v p r (x * a) m
     → HoldsRow v p r (x * width) (n * width) (new ++ rest)

@@ -7,6 +7,10 @@ use Rattle.theory.proofs.Ceils.{ceil_le}
 use Rattle.theory.proofs.Positions as positions
 use Rattle.theory.proofs.Limits as numbers
 use Rattle.theory.proofs.Limits.{Limits, row_inside, offset_inside}
+use Rattle.formats.specs.Meaning.{part_of}
+use Rattle.kinds.specs.declared.kind.GroupKind as GroupKind
+use Rattle.stores.specs.declared.store.Store as Store
+use Rattle.sender.specs.declared.source.Source.{Source}
 use Rattle.sender.specs.Tested.{Tested}
 
 -- timestamp and SSRC have no part in them
@@ -45,6 +49,10 @@ limits {t} laws p =
       row_pos = w.row_pos;
       modes = w.modes;
     }
+
+pub limits_of : {K S : Type 0} {k : GroupKind.Ghosts K} {p : Store.Ghosts S} → ((x : K) → LawfulKind (k.kind x)) → (s : Source K S k p)
+    → Limits (part_of k.kind s.part.now)
+limits_of laws s = limits (laws s.part.now.format.kind) s.tested
 
 pub few_octets : {t : Part} → Limits t → (layout_of t.format).octets ≤ 48
 few_octets {t} w = positions.few_octets t.format.kind t.format.depth w.layout

@@ -73,11 +73,11 @@ impl<K: GroupKind, S: Store> Iterator for Segments<'_, K, S> {
     fn next(&mut self) -> Option<Segment> {
         let source = self.source;
         let first = self.first;
-        let room = self.space.saturating_sub(self.header) / source.octets;
-        if self.most == 0 || source.groups <= first || room == 0 {
+        let room = self.space.saturating_sub(self.header);
+        if self.most == 0 || source.groups <= first || room < source.octets {
             return None;
         }
-        let count = room.min(source.row_groups - first % source.row_groups);
+        let count = (room / source.octets).min(source.row_groups - first % source.row_groups);
         self.space -= self.header + count * source.octets;
         self.most -= 1;
         self.first += count;

@@ -4,14 +4,14 @@ use Rattle.theory.specs.Cutting.{srd_header, srd_headers}
 use Rattle.sender.specs.Cuts.{segment_of, segments_left}
 use Rattle.sender.proofs.Cuts.{head_fits}
 use Rattle.sender.proofs.Heads.{more_is}
-use Rattle.sender.proofs.Sizes.{limits}
+use Rattle.sender.proofs.Sizes.{limits_of}
 use Rattle.sender.proofs.cutting.Segments.+write_headers.Goals as goal
 
 pub segment_header-octets-requires : goal.segment_header-octets-requires
 segment_header-octets-requires g t c =
     let a = c.args.self in
     let s = a.source in
-    let fit = head_fits (limits (g.met.K.GroupKind.lawful s.part.now.format.kind) s.tested) a.header a.most a.space a.first
+    let fit = head_fits (limits_of g.met.K.GroupKind.lawful s) a.header a.most a.space a.first
     c.in-Some.ensures.steps.1 a.small in
     record { inside = fit.0; short = fit.1 }
 

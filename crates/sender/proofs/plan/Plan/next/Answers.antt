@@ -4,13 +4,13 @@ use Rattle.std.proofs.lemmas.Bool.{cases_lt, lt-ltb, le-ltb, lt-leb, le-leb}
 use Rattle.formats.specs.Meaning.{part_of}
 use Rattle.theory.specs.Formats.{groups}
 use Rattle.sender.proofs.Cuts.{near_or_none}
-use Rattle.sender.proofs.Sizes.{limits}
+use Rattle.sender.proofs.Sizes.{limits_of}
 use Rattle.sender.proofs.plan.Plan.next.Goals as goal
 
 pub overflow_add-next : goal.overflow_add-next
 overflow_add-next g c =
     let s = c.args.self.now.source in
-    let w = limits (g.met.K.GroupKind.lawful s.part.now.format.kind) s.tested in
+    let w = limits_of g.met.K.GroupKind.lawful s in
     elim (near_or_none w c.args.self.now.first) [
       | inl e ↦ omega (arith, c.args.self.now.groups_are)
       | inr h ↦ omega (arith, c.args.self.now.groups_are)

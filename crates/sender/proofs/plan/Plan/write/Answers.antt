@@ -8,7 +8,7 @@ use Rattle.theory.specs.Cutting.{cut, cut_groups, rtp_header, srd_headers, conca
 use Rattle.sender.specs.Cuts.{segments_left}
 use Rattle.sender.proofs.Cuts.{near_or_none}
 use Rattle.sender.proofs.Packets.{packet_length, packet_parts}
-use Rattle.sender.proofs.Sizes.{limits}
+use Rattle.sender.proofs.Sizes.{limits_of}
 use Rattle.sender.proofs.Wholes.{none_follows}
 use Rattle.sender.proofs.plan.Plan.write.Goals as goal
 
@@ -16,14 +16,14 @@ pub split_at_mut-headers-requires : goal.split_at_mut-headers-requires
 split_at_mut-headers-requires g c =
     let p = c.args.self.now in
     let s = p.source in
-    let w = limits (g.met.K.GroupKind.lawful s.part.now.format.kind) s.tested in
+    let w = limits_of g.met.K.GroupKind.lawful s in
     let long = packet_length w (g.S.Store.picture s.store.now) c.args.sequence p.first in
     omega (arith, c.requires ∙ long, c.start-start.ensures, p.segments_are)
 
 pub write_groups-requires-clause-small : goal.write_groups-requires-clause-small
 write_groups-requires-clause-small g c i h =
     let p = c.args.self.now in
-    let w = limits (g.met.K.GroupKind.lawful p.source.part.now.format.kind) p.source.tested in
+    let w = limits_of g.met.K.GroupKind.lawful p.source in
     elim (near_or_none w p.first) [
       | inl e ↦ absurd (omega (arith, p.groups_are))
       | inr near ↦ omega (arith, p.groups_are)
@@ -34,7 +34,7 @@ write_groups-requires-clause-room g c =
     let p = c.args.self.now in
     let s = p.source in
     let t = part_of g.K.GroupKind.kind s.part.now in
-    let w = limits (g.met.K.GroupKind.lawful s.part.now.format.kind) s.tested in
+    let w = limits_of g.met.K.GroupKind.lawful s in
     let long = packet_length w (g.S.Store.picture s.store.now) c.args.sequence p.first in
     let octets : p.groups * s.octets ≡ cut_groups (cut t p.first) * (layout_of t.format).octets =
     ap (λ x. x * s.octets) p.groups_are ∙ ap (λ x. cut_groups (cut t p.first) * x) s.octets_are in
@@ -46,7 +46,7 @@ returns g c =
     let s = p.source in
     let t = part_of g.K.GroupKind.kind s.part.now in
     let v = g.S.Store.picture s.store.now in
-    let w = limits (g.met.K.GroupKind.lawful s.part.now.format.kind) s.tested in
+    let w = limits_of g.met.K.GroupKind.lawful s in
     let seq = c.args.sequence in
     packet_parts w v seq p.first c.copy_from_slice.new.self c.write_headers.new.out c.write_groups.new.out
     (c.copy_from_slice.ensures.after ∙ c.packet_header-octets.ensures

@@ -8,13 +8,13 @@ use Rattle.theory.specs.Groups.{group_octets}
 use Rattle.theory.specs.Cutting.{concat_map}
 use Rattle.theory.proofs.Contents.{length_group_octets}
 use Rattle.sender.proofs.Pieces.{groups_end, pieces_more, group_packed}
-use Rattle.sender.proofs.Sizes.{limits}
+use Rattle.sender.proofs.Sizes.{limits_of}
 use Rattle.sender.proofs.runs.Run.pack.Goals as goal
 
 pub pack_group-requires-clause-laws : goal.pack_group-requires-clause-laws
 pack_group-requires-clause-laws g c =
     let s = c.args.self.now.source in
-    let w = limits (g.met.K.GroupKind.lawful s.part.now.format.kind) s.tested in
+    let w = limits_of g.met.K.GroupKind.lawful s in
     subst (LawfulLayout (g.K.GroupKind.kind s.part.now.format.kind)) (sym c.requires.depth) w.layout
 
 pub loop-i-preserved : goal.loop-i-preserved
@@ -23,7 +23,7 @@ loop-i-preserved g c =
     let s = r.source in
     let t = part_of g.K.GroupKind.kind s.part.now in
     let v = g.S.Store.picture s.store.now in
-    let w = limits (g.met.K.GroupKind.lawful s.part.now.format.kind) s.tested in
+    let w = limits_of g.met.K.GroupKind.lawful s in
     let d = g.D.Depth.depth c.args.depth.now in
     let i = c.loop-i.i in
     let o = c.octets-octets.result in

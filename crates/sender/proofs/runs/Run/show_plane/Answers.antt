@@ -5,13 +5,13 @@ use Rattle.theory.specs.Formats.{layout_of}
 use Rattle.sender.specs.Rows.{HoldsRow}
 use Rattle.sender.proofs.Pieces.{small_place}
 use Rattle.sender.proofs.Shown.{one_more}
-use Rattle.sender.proofs.Sizes.{limits}
+use Rattle.sender.proofs.Sizes.{limits_of}
 use Rattle.sender.proofs.runs.Run.show_plane.Goals as goal
 
 pub overflow_mul-first : goal.overflow_mul-first
 overflow_mul-first g c =
     let s = c.args.self.now in
-    let w = limits (g.met.K.GroupKind.lawful s.source.part.now.format.kind) s.source.tested in
+    let w = limits_of g.met.K.GroupKind.lawful s.source in
     let few : c.group_rows.result ≤ 8 = omega (arith, w.layout.rows_range, c.group_rows.ensures) in
     omega (arith, small_place s.unit_row c.group_rows.result c.row_step.result 0 s.short.row few (omega arith))
 

@@ -1,22 +1,22 @@
 use Rattle.std.proofs.Common.{◌+◌, ◌%◌, ◌<◌, refl, div-add-mod', div-le_self, arith}
 use Rattle.std.proofs.lemmas.Nat.{mod_below}
-use Rattle.sender.proofs.Sizes.{limits, few_row_groups}
+use Rattle.sender.proofs.Sizes.{limits_of, few_row_groups}
 use Rattle.sender.proofs.runs.RunsIterator.next.Goals as goal
 
 pub nonzero_rem-place : goal.nonzero_rem-place
 nonzero_rem-place g c =
     let s = c.args.self.now.source in
-    omega (arith, (limits (g.met.K.GroupKind.lawful s.part.now.format.kind) s.tested).row_pos, s.row_groups_are)
+    omega (arith, (limits_of g.met.K.GroupKind.lawful s).row_pos, s.row_groups_are)
 
 pub nonzero_div-result : goal.nonzero_div-result
 nonzero_div-result g c =
     let s = c.args.self.now.source in
-    omega (arith, (limits (g.met.K.GroupKind.lawful s.part.now.format.kind) s.tested).row_pos, s.row_groups_are)
+    omega (arith, (limits_of g.met.K.GroupKind.lawful s).row_pos, s.row_groups_are)
 
 pub overflow_sub-source : goal.overflow_sub-source
 overflow_sub-source g c =
     let s = c.args.self.now.source in
-    let pos : 0 < s.row_groups = omega (arith, (limits (g.met.K.GroupKind.lawful s.part.now.format.kind) s.tested).row_pos, s.row_groups_are) in
+    let pos : 0 < s.row_groups = omega (arith, (limits_of g.met.K.GroupKind.lawful s).row_pos, s.row_groups_are) in
     omega (arith, mod_below c.args.self.now.next s.row_groups pos)
 
 pub overflow_add-self : goal.overflow_add-self
@@ -28,7 +28,7 @@ invariant_of-self g c = record { small = λ i h. omega (arith, c.args.self.now.s
 pub invariant_of-result : goal.invariant_of-result
 invariant_of-result g c =
     let s = c.args.self.now.source in
-    let w = limits (g.met.K.GroupKind.lawful s.part.now.format.kind) s.tested in
+    let w = limits_of g.met.K.GroupKind.lawful s in
     let n = c.args.self.now.next in
     let pos : 0 < s.row_groups = omega (arith, w.row_pos, s.row_groups_are) in
     let below : n % s.row_groups < s.row_groups = mod_below n s.row_groups pos in
@@ -44,7 +44,7 @@ invariant_of-result g c =
 some : (g : _) (c : goal.After-result-1 g) → 0 < c.min-groups.result
 some g c =
     let s = c.args.self.now.source in
-    let pos : 0 < s.row_groups = omega (arith, (limits (g.met.K.GroupKind.lawful s.part.now.format.kind) s.tested).row_pos, s.row_groups_are) in
+    let pos : 0 < s.row_groups = omega (arith, (limits_of g.met.K.GroupKind.lawful s).row_pos, s.row_groups_are) in
     omega (arith, mod_below c.args.self.now.next s.row_groups pos)
 
 pub returns-clause-steps : goal.returns-clause-steps

@@ -1,7 +1,7 @@
 use Rattle.std.proofs.Common.{◌≡◌, ◌≤◌, cond, sym, ◌∙◌, arith}
 use Rattle.std.proofs.lemmas.Bool.{cond-true, cond-false}
 use Rattle.formats.specs.Meaning.{part_of}
-use Rattle.sender.proofs.Sizes.{limits}
+use Rattle.sender.proofs.Sizes.{limits_of}
 use Rattle.sender.proofs.Heads.{header_is}
 use Rattle.sender.proofs.source.Source.packet_header.Goals as goal
 use Rattle.sender.proofs.source.Source.packet_header.Goals.{then-last, else-last}
@@ -13,7 +13,7 @@ overflow_add-result g c =
       | then-last x ↦ omega (arith, x.marker-is)
       | else-last x ↦ omega (arith, x.marker-is)
     ] in
-    omega (arith, (limits (g.met.K.GroupKind.lawful s.part.now.format.kind) s.tested).type_range)
+    omega (arith, (limits_of g.met.K.GroupKind.lawful s).type_range)
 
 pub returns : goal.returns
 returns g c =

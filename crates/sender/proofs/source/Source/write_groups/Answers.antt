@@ -1,4 +1,4 @@
-use Rattle.std.proofs.Common.{◌≡◌, ℕ, ◌+◌, ◌-◌, ◌*◌, ◌^◌, ◌≤◌, List, length, take, refl, sym, ap, ◌∙◌, add-mul, zero-mul, arith, rules}
+use Rattle.std.proofs.Common.{◌≡◌, ℕ, ◌+◌, ◌-◌, ◌*◌, ◌≤◌, List, length, take, sym, ap, ◌∙◌, zero-mul, arith, rules}
 use borrow.Rule.Slice.PartMut.{put_mid}
 use Rattle.std.specs.List.{range_with_len}
 use Rattle.std.proofs.lemmas.List.{take_all}
@@ -6,8 +6,8 @@ use Rattle.formats.specs.Meaning.{part_of}
 use Rattle.theory.specs.Groups.{group_octets}
 use Rattle.theory.specs.Cutting.{concat_map}
 use Rattle.theory.proofs.Contents.{length_group_octets}
-use Rattle.sender.proofs.Pieces.{few_groups_octets, groups_end, pieces_more}
-use Rattle.sender.proofs.Sizes.{limits, few_octets}
+use Rattle.sender.proofs.Pieces.{room_for, pieces_more}
+use Rattle.sender.proofs.Sizes.{limits_of, few_octets}
 use Rattle.sender.proofs.source.Source.write_groups.Goals as goal
 
 pub loop-run-init : goal.loop-run-init
@@ -33,69 +33,55 @@ loop-run-init g c =
 pub overflow_mul-end : goal.overflow_mul-end
 overflow_mul-end g c =
     let s = c.args.self.now in
-    let w = limits (g.met.K.GroupKind.lawful s.part.now.format.kind) s.tested in
     let it = c.loop-run.run-iterator in
     let inv = c.loop-run.invariant.2 in
     let step = c.in-Some.ensures.steps in
     let n = c.in-Some.run'.groups in
     let o = s.octets in
     let done = it.next - c.args.first in
-    let more : done + n ≤ c.args.count = omega (arith, inv.before, inv.rest, step.left) in
-    let few : o ≤ 48 = omega (arith, few_octets w, s.octets_are) in
-    let small : done + n ≤ 2 ^ 32 = omega (arith, c.requires.small (done + n - 1) (omega (arith, step.some)), step.some) in
-    let split : (done + n) * o ≡ done * o + n * o = add-mul done n o in
-    omega (arith, few_groups_octets (done + n) o small few)
+    let few : o ≤ 48 = omega (arith, few_octets (limits_of g.met.K.GroupKind.lawful s), s.octets_are) in
+    let room = room_for c.args.first done n c.args.count o few step.some (omega (arith, inv.before, inv.rest, step.left)) c.requires.small in
+    omega (arith, room.split, room.small)
 
 pub overflow_add-end : goal.overflow_add-end
 overflow_add-end g c =
     let s = c.args.self.now in
-    let w = limits (g.met.K.GroupKind.lawful s.part.now.format.kind) s.tested in
     let it = c.loop-run.run-iterator in
     let inv = c.loop-run.invariant.2 in
     let step = c.in-Some.ensures.steps in
     let n = c.in-Some.run'.groups in
     let o = s.octets in
     let done = it.next - c.args.first in
-    let more : done + n ≤ c.args.count = omega (arith, inv.before, inv.rest, step.left) in
-    let few : o ≤ 48 = omega (arith, few_octets w, s.octets_are) in
-    let small : done + n ≤ 2 ^ 32 = omega (arith, c.requires.small (done + n - 1) (omega (arith, step.some)), step.some) in
-    let split : (done + n) * o ≡ done * o + n * o = add-mul done n o in
-    omega (arith, inv.start, few_groups_octets (done + n) o small few)
+    let few : o ≤ 48 = omega (arith, few_octets (limits_of g.met.K.GroupKind.lawful s), s.octets_are) in
+    let room = room_for c.args.first done n c.args.count o few step.some (omega (arith, inv.before, inv.rest, step.left)) c.requires.small in
+    omega (arith, inv.start, room.split, room.small)
 
 pub slice_bounds-write-end : goal.slice_bounds-write-end
 slice_bounds-write-end g c =
     let s = c.args.self.now in
-    let w = limits (g.met.K.GroupKind.lawful s.part.now.format.kind) s.tested in
     let it = c.loop-run.run-iterator in
     let inv = c.loop-run.invariant.2 in
     let step = c.in-Some.ensures.steps in
     let n = c.in-Some.run'.groups in
     let o = s.octets in
     let done = it.next - c.args.first in
-    let more : done + n ≤ c.args.count = omega (arith, inv.before, inv.rest, step.left) in
-    let few : o ≤ 48 = omega (arith, few_octets w, s.octets_are) in
-    let small : done + n ≤ 2 ^ 32 = omega (arith, c.requires.small (done + n - 1) (omega (arith, step.some)), step.some) in
-    let split : (done + n) * o ≡ done * o + n * o = add-mul done n o in
-    let end : c.loop-run.start + n * o ≤ length c.loop-run.out =
-    omega (arith, inv.start, groups_end done n c.args.count o more refl (c.loop-run.auto.out ∙ c.requires.room)) in
+    let few : o ≤ 48 = omega (arith, few_octets (limits_of g.met.K.GroupKind.lawful s), s.octets_are) in
+    let room = room_for c.args.first done n c.args.count o few step.some (omega (arith, inv.before, inv.rest, step.left)) c.requires.small in
+    let end : c.loop-run.start + n * o ≤ length c.loop-run.out = omega (arith, inv.start, room.end, c.loop-run.auto.out, c.requires.room) in
     search rules
 
 pub loop-run-preserved : goal.loop-run-preserved
 loop-run-preserved g c =
     let s = c.args.self.now in
-    let w = limits (g.met.K.GroupKind.lawful s.part.now.format.kind) s.tested in
     let it = c.loop-run.run-iterator in
     let inv = c.loop-run.invariant.2 in
     let step = c.in-Some.ensures.steps in
     let n = c.in-Some.run'.groups in
     let o = s.octets in
     let done = it.next - c.args.first in
-    let more : done + n ≤ c.args.count = omega (arith, inv.before, inv.rest, step.left) in
-    let few : o ≤ 48 = omega (arith, few_octets w, s.octets_are) in
-    let small : done + n ≤ 2 ^ 32 = omega (arith, c.requires.small (done + n - 1) (omega (arith, step.some)), step.some) in
-    let split : (done + n) * o ≡ done * o + n * o = add-mul done n o in
-    let end : c.loop-run.start + n * o ≤ length c.loop-run.out =
-    omega (arith, inv.start, groups_end done n c.args.count o more refl (c.loop-run.auto.out ∙ c.requires.room)) in
+    let few : o ≤ 48 = omega (arith, few_octets (limits_of g.met.K.GroupKind.lawful s), s.octets_are) in
+    let room = room_for c.args.first done n c.args.count o few step.some (omega (arith, inv.before, inv.rest, step.left)) c.requires.small in
+    let end : c.loop-run.start + n * o ≤ length c.loop-run.out = omega (arith, inv.start, room.end, c.loop-run.auto.out, c.requires.room) in
     let t = part_of g.K.GroupKind.kind s.part.now in
     let v = g.S.Store.picture s.store.now in
     let f : ℕ → List ℕ = group_octets t v in
@@ -118,10 +104,10 @@ loop-run-preserved g c =
         source = step.kept ∙ inv.source;
         before = omega (arith, step.next, inv.before);
         rest = omega (arith, step.next, step.left, inv.rest);
-        start = ap (λ x. x + n * o) inv.start ∙ sym split ∙ ap (λ x. x * o) (sym on);
+        start = ap (λ x. x + n * o) inv.start ∙ sym room.split ∙ ap (λ x. x * o) (sym on);
         written =
             ap (λ x. take (x + n * o) (put_mid x k c.loop-run.out ys)) inv.start
-            ∙ ap (λ x. take x (put_mid (done * o) k c.loop-run.out ys)) (sym split)
+            ∙ ap (λ x. take x (put_mid (done * o) k c.loop-run.out ys)) (sym room.split)
             ∙ pieces_more f first done n o k c.loop-run.out ys (λ x. length_group_octets t v x ∙ sym s.octets_are)
             (omega (arith, end, inv.start)) is (ap (λ x. take x c.loop-run.out) (sym inv.start) ∙ inv.written)
             ∙ ap (λ x. concat_map f (range_with_len first x)) (sym on);
