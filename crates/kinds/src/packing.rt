@@ -40,6 +40,7 @@ fn number<T: Digit>(digits: &[T], width: usize) -> u64
     requires small { AllBelowBase (2 ^ width) (map T.value digits.now) }
     ensures { result ≡ number_from_digits (2 ^ width) (map T.value digits.now) }
 {
+    // A `for`: as a `fold` it compiled to a loop of its own inside the one of `unpack`.
     let mut n = 0;
     for digit in digits {
         n = n << width | digit.value();

@@ -25,6 +25,7 @@ impl<K: GroupKind, S: Store> Source<'_, K, S> {
             next: first,
             left: count,
         };
+        // A start beside the runs: they differ in length, so no chunks are theirs.
         let mut start = 0;
         for run in runs {
             let end = start + run.groups * self.octets;
