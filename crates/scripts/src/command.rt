@@ -193,10 +193,7 @@ fn put_of(words: &str) -> Option<Command<'_>> {
 fn send_of(words: &str) -> Option<Command<'_>> {
     let (timestamp, words) = first_word(words);
     let (field, sequence) = first_word(words);
-    Some(Command::Send(
-        part_of(timestamp, field)?,
-        sequence.parse::<u32>().ok()?,
-    ))
+    Some(Command::Send(part_of(timestamp, field)?, sequence.parse::<u32>().ok()?))
 }
 
 fn open_of(words: &str) -> Option<Command<'_>> {

@@ -38,6 +38,7 @@ fn frame<K>(kind: K, width: u16, height: u16) -> Format<K> {
     }
 }
 
+// Two functions, as what changes places is the types of two stores: a generic one would be given their memory and how each is made.
 fn planar_to_packed<K: GroupKind + Copy>(
     rt: &HostRuntime,
     format: &Format<K>,

@@ -27,10 +27,11 @@ pub fn with_part<K: GroupKind + Copy, S: Store>(
             Command::Count => count(rt, &part, store, map)?,
             Command::Show(place) => show(rt, store, place)?,
             Command::Put(place, value) => put(rt, store, place, value)?,
-            _ => {
+            Command::Close => {
                 println!(rt; "closed")?;
                 break;
             }
+            _ => (),
         }
     }
     let _idle = part.close();

@@ -36,7 +36,9 @@ impl<'a> Script<'a> {
     {
         while let Some((line, rest)) = self.rest.split_first() {
             let command = command_of(line);
-            if let Ok(Some(command)) = command && !wanted(&command) {
+            if let Ok(Some(command)) = command
+                && !wanted(&command)
+            {
                 return Ok(None);
             }
             self.rest = rest;

@@ -28,10 +28,11 @@ pub fn with_store<K: GroupKind + Copy, S: Store>(
             Command::Put(place, value) => put(rt, store, place, value)?,
             Command::Send(part, sequence) => send(rt, format, store, part, sequence)?,
             Command::Open(part) => open_part(rt, script, format, store, part)?,
-            _ => {
+            Command::Ramp => {
                 put_ramp(store);
                 println!(rt; "done")?;
             }
+            _ => (),
         }
     }
     Ok(())

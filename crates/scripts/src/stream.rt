@@ -67,18 +67,20 @@ fn do_commands<K: GroupKind + Copy>(
     while let Some(command) = script.next_if(rt, Command::is_for_stream)? {
         match command {
             Command::Read(part, hex) => print_packet(rt, &part.of(format), hex)?,
+            // Two arms, of which each has what its store alone has: its memory, and how it is made over it.
             Command::Store(Layout::Planar) => {
                 let mut words = vec![in rt.alloc(); 0u16; format.planar_words()]?;
                 println!(rt; "done")?;
                 let mut store = Planar::new(format, words.as_mut_slice());
                 with_store(rt, script, format, &mut store)?;
             }
-            _ => {
+            Command::Store(Layout::Packed) => {
                 let mut octets = vec![in rt.alloc(); 0u8; format.packed_octets()]?;
                 println!(rt; "done")?;
                 let mut store = Packed::new(format, octets.as_mut_slice());
                 with_store(rt, script, format, &mut store)?;
             }
+            _ => (),
         }
     }
     Ok(())

@@ -29,6 +29,7 @@ pub fn time_frames(rt: &HostRuntime) -> anyhow::Result<()> {
     time_packed(rt, &format)
 }
 
+// Two functions, of which each has what its store alone has: its memory, and how it is made over it.
 fn time_planar<K: GroupKind + Copy>(rt: &HostRuntime, format: &Format<K>) -> anyhow::Result<()> {
     println!(rt; "planar memory")?;
     let mut words = vec![in rt.alloc(); 0u16; format.planar_words()]?;
