@@ -8,6 +8,7 @@ use Rattle.theory.specs.Kinds.{by_depth, below, key, key_layout, full_layout, fu
 use Rattle.theory.proofs.Lawfulness.{lawful_test, Told, told_none, each_depth, lawful_by_depth}
 use Rattle.kinds.specs.Families.{Follows}
 
+-- theory has its own lemmas on these layouts, which are private there
 past : (n i x : ℕ) → n ≤ i → below n i x ≡ 0
 past n i x h = cond-false (nat_lt i n) x 0 (le-ltb i n h)
 

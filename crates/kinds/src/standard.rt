@@ -43,6 +43,8 @@ fn full_columns(depth: u8) -> usize
     }
 }
 
+// 4:4:4, RGB and XYZ state the same numbers: a trait for the three would owe each of their laws again and state the numbers once more, which is
+// no plainer.
 impl Family for Ycc444 {
     const PLANES: usize = 3;
 
