@@ -2,6 +2,7 @@
 
 use crate::packet::Given;
 use formats::{Format, Part, SampledKind};
+use hex::FromHexError;
 use packets::Packet;
 use reports::{Contents, FormatTask, Geometry, Refused};
 
@@ -35,9 +36,13 @@ impl FormatTask for ReadPacket<'_> {
 
     fn run<K: SampledKind + Copy>(&mut self, format: &Format<K>) -> anyhow::Result<()> {
         let rt = self.rt;
-        let Ok(octets) = hex::decode(rt.alloc(), self.given.hex) else {
-            println!(rt; "not understood: a packet is an even number of hex digits")?;
-            return Ok(());
+        let octets = match hex::decode(rt.alloc(), self.given.hex) {
+            Ok(octets) => octets,
+            Err(error @ FromHexError::OutOfMemory) => return Err(error.into()),
+            Err(_) => {
+                println!(rt; "not understood: a packet is an even number of hex digits")?;
+                return Ok(());
+            }
         };
         let part = Part {
             format: *format,

@@ -9,7 +9,7 @@ ghost use Rattle.fmtp.specs.Borrowed.{text_of, entries_left, piece_of, pieces_le
 
 use crate::texts::{split_at_first, without_blanks};
 
-/// A name alone, or a name and a value, each a part of the line.
+/// A name alone, or a name and a value, each a part of the line. Two cases, as the project's rule has it, and no name beside an `Option`.
 #[derive(Clone, Copy)]
 pub enum Entry<'a> {
     Flag(&'a [u8]),

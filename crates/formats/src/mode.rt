@@ -7,7 +7,7 @@ ghost use Rattle.formats.specs.Numbers.{mode_number, NumbersMode};
 use records::PackingMode;
 use refusals::Refusal;
 
-/// How packets are filled: as they come, or in blocks of 180 octets.
+/// How packets are filled: as they come, or in blocks of 180 octets. It numbers a format; what a line says is `PackingMode` of records.
 #[derive(Clone, Copy, Debug, PartialEq, Eq)]
 pub enum Mode {
     General = 1,

@@ -16,6 +16,7 @@ use refusals::Refusal;
 pub struct Part<K> {
     pub format: Format<K>,
     pub timestamp: u32,
+    // A number, since callers fill it in: a field that the format does not have is refused with 5.
     pub field: u8,
 }
 

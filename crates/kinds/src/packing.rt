@@ -151,6 +151,7 @@ impl Packing {
 }
 
 /// The sample at position `k` of a group; 0 if the depth, the number of octets or the position is not the kind's.
+// 0, and false below, in the place of an `Option`: a kind's questions and the calls on its groups answer so, by the project's rule.
 pub fn unpack<K: GroupKind>(kind: &K, depth: u8, group: &[u8], k: usize) -> u16
     ensures { result ≡ unpacked ((K.GroupKind.kind kind.now).layout depth) depth group.now k }
 {

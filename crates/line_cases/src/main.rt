@@ -19,6 +19,7 @@ fn main(rt: HostRuntime) -> anyhow::Result<()> {
             println!(rt; "without a number: {row:?}")?;
             continue;
         };
+        // 0 is the table's word for a line that is read.
         let answer = read(line).err().map_or(0, |refusal| refusal.number());
         if answer == due {
             agree = agree.saturating_add(1);

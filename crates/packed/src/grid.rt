@@ -23,7 +23,7 @@ pub(crate) struct Place {
     pub(crate) column: u8,
 }
 
-/// Plain copies of what a format and its kind tell.
+/// Plain copies of what a format and its kind tell. Arrays beside their counts, and no Vec: a store takes fixed memory.
 #[derive(Clone, Copy)]
 pub(crate) struct Grid {
     pub(crate) plane_count: u8,

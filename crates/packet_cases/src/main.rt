@@ -7,7 +7,6 @@ mod parts;
 mod row;
 
 use crate::row::Row;
-use std::alloc::Global;
 use std::io::{BufRead, BufReader};
 use std::str;
 
@@ -20,7 +19,7 @@ fn main(rt: HostRuntime) -> anyhow::Result<()> {
         if row.first() == Some(&b'#') {
             continue;
         }
-        if agrees(rt.alloc(), &row) {
+        if Row::parse(rt.alloc(), str::from_utf8(&row)?)?.is_answered() {
             agree = agree.saturating_add(1);
         } else {
             differ = differ.saturating_add(1);
@@ -30,12 +29,4 @@ fn main(rt: HostRuntime) -> anyhow::Result<()> {
     }
     println!(rt; "{agree} answers agree, {differ} differ")?;
     Ok(())
-}
-
-// Whether a row is one, and its packet gets the answer that is due.
-fn agrees(heap: Global, row: &[u8]) -> bool {
-    let row = str::from_utf8(row)
-        .ok()
-        .and_then(|text| Row::parse(heap, text));
-    row.is_some_and(|row| row.is_answered())
 }

@@ -47,16 +47,50 @@ fn format_of<K: Copy>(kind: K, letter: &str) -> Format<K> {
     match letter {
         "A" => hd,
         "B" => Format { mode: block, ..hd },
-        "C" => Format { height: 1081, scan: interlaced, ..hd },
+        "C" => Format {
+            height: 1081,
+            scan: interlaced,
+            ..hd
+        },
         "D" => Format { height: 9, ..hd },
-        "E" => Format { width: 5, height: 4, payload_type: 127, ..hd },
-        "F" => Format { depth: 8, width: 1, height: 1, ..hd },
-        "G" => Format { depth: 8, width: 720, height: 486, scan: segmented, ..hd },
-        "U" => Format { payload_type: 95, ..hd },
-        "V" => Format { width: 250, mode: block, ..hd },
-        "W" => Format { width: 252, mode: block, ..hd },
+        "E" => Format {
+            width: 5,
+            height: 4,
+            payload_type: 127,
+            ..hd
+        },
+        "F" => Format {
+            depth: 8,
+            width: 1,
+            height: 1,
+            ..hd
+        },
+        "G" => Format {
+            depth: 8,
+            width: 720,
+            height: 486,
+            scan: segmented,
+            ..hd
+        },
+        "U" => Format {
+            payload_type: 95,
+            ..hd
+        },
+        "V" => Format {
+            width: 250,
+            mode: block,
+            ..hd
+        },
+        "W" => Format {
+            width: 252,
+            mode: block,
+            ..hd
+        },
         "X" => Format { depth: 9, ..hd },
-        "Y" => Format { scan: interlaced, ..hd },
+        "Y" => Format {
+            scan: interlaced,
+            ..hd
+        },
         _ => Format { width: 0, ..hd },
     }
 }

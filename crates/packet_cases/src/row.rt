@@ -1,6 +1,7 @@
 //! A row of the table: a packet, and the answer that is due.
 
 use crate::parts::read;
+use anyhow::Context;
 use packets::{Packet, Segment};
 use std::alloc::Global;
 
@@ -15,17 +16,17 @@ pub struct Row<'a> {
 }
 
 impl<'a> Row<'a> {
-    pub fn parse(heap: Global, text: &'a str) -> Option<Row<'a>> {
+    pub fn parse(heap: Global, text: &'a str) -> anyhow::Result<Row<'a>> {
         let mut words = text.split(' ');
-        let letter = words.next()?;
-        let timestamp = words.next()?.parse::<u32>().ok()?;
-        let field = words.next()?.parse::<u8>().ok()?;
-        let packet = hex::decode(heap, words.next()?).ok()?;
+        let letter = words.next().context("no letter")?;
+        let timestamp = words.next().context("no timestamp")?.parse::<u32>()?;
+        let field = words.next().context("no field")?.parse::<u8>()?;
+        let packet = hex::decode(heap, words.next().context("no packet")?)?;
         let mut due = Vec::new(heap);
         for word in words {
-            due.push(word.parse::<u32>().ok()?).ok()?;
+            due.push(word.parse::<u32>()?)?;
         }
-        Some(Row {
+        Ok(Row {
             letter,
             timestamp,
             field,

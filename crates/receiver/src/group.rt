@@ -42,6 +42,7 @@ impl<K: GroupKind> Group<'_, K> {
     {
         let kind = &self.part.format.kind;
         let depth = self.part.format.depth;
+        // By number: a position is no part of a slice, and `unpack` and the kind are asked by its number.
         for k in 0..kind.positions(depth) {
             let place = self.place(k);
             let value = unpack(kind, depth, octets, k);

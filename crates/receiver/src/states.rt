@@ -31,6 +31,7 @@ pub struct Open<K> {
 impl Idle {
     /// Opens a part, and clears the octets of the map that it needs: refusal 4 for the format, 5 for the field, 6 for a map that is too
     /// short. A refusal hands the receiver back. An opening begins a run, over every picture.
+    // Format, timestamp and field are what an opening names, by the project's rule.
     pub fn open<K: GroupKind + Drop>(
         self,
         format: Format<K>,
@@ -70,6 +71,7 @@ impl<K: GroupKind> Open<K> {
     {
         self.check(store, map)?;
         let packet = Packet::read(packet, &self.part)?;
+        // A sum by hand: putting a segment changes store and map, and a chain's closure that changes what it holds leaves its result unknown.
         let mut count = 0;
         for segment in packet.iter() {
             count += put_segment(&self.part, segment, store, map);

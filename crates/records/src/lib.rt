@@ -117,6 +117,7 @@ pub struct Record {
     pub colorimetry: Colorimetry,
     pub packing: PackingMode,
     pub edition: Edition,
+    // Two flags, as a line has them; of the four pairs one contradicts itself, and is refused with 25.
     pub interlace: bool,
     pub segmented: bool,
     pub transfer: Option<Transfer>,

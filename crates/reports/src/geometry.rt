@@ -17,7 +17,10 @@ impl<K: GroupKind + Copy> fmt::Display for Geometry<'_, K> {
         let octets = format.group_octets();
         let columns = format.group_columns();
         let groups = format.row_groups();
-        writeln!(f, "group          octets {octets}, columns {columns}, groups in a row {groups}")?;
+        writeln!(
+            f,
+            "group          octets {octets}, columns {columns}, groups in a row {groups}"
+        )?;
         let planar = format.planar_words().saturating_mul(2);
         let packed = format.packed_octets();
         writeln!(f, "frame          octets planar {planar}, packed {packed}")?;

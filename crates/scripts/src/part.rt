@@ -3,6 +3,7 @@
 ghost use Rattle.std.specs.Prelude.{◌≤◌, length};
 
 use crate::command::Command;
+use crate::reading::octets_of;
 use crate::script::Script;
 use crate::store::{put, show};
 use kinds::GroupKind;
@@ -31,6 +32,7 @@ pub fn with_part<K: GroupKind + Copy, S: Store>(
                 println!(rt; "closed")?;
                 break;
             }
+            // `next_if` lets no other through.
             _ => (),
         }
     }
@@ -45,8 +47,7 @@ fn offer<K: GroupKind + Copy, S: Store>(
     map: &mut [u8],
     hex: &str,
 ) -> anyhow::Result<()> {
-    let Ok(packet) = hex::decode(rt.alloc(), hex) else {
-        println!(rt; "not understood: a packet is an even number of hex digits")?;
+    let Some(packet) = octets_of(rt, hex)? else {
         return Ok(());
     };
     match part.take(&packet, store, map) {

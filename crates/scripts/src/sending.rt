@@ -25,7 +25,7 @@ pub fn draw_all<K: GroupKind + Copy, S: Store, F: FnMut(&[u8]) -> anyhow::Result
         Ok(sending) => sending,
         Err(refusal) => return Ok(Err(refusal)),
     };
-    // Each packet has a group at least.
+    // Each packet has a group at least, so these are packets enough.
     for _ in 0..part.groups() {
         match sending.next(store, &mut buffer) {
             Ok(Step::More(rest, length)) => {

@@ -46,7 +46,7 @@ fn altered(heap: Global, packet: &[u8], at: usize, bits: u8) -> Result<Vec<u8>, 
     Ok(copy)
 }
 
-// Every second packet from the last on, each twice.
+// The packets with an even number, the last of them first, each twice.
 fn push_turned(
     heap: Global,
     offers: &mut Vec<Vec<u8>>,

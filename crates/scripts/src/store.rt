@@ -32,6 +32,7 @@ pub fn with_store<K: GroupKind + Copy, S: Store>(
                 put_ramp(store);
                 println!(rt; "done")?;
             }
+            // `next_if` lets no other through.
             _ => (),
         }
     }

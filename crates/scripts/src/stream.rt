@@ -80,6 +80,7 @@ fn do_commands<K: GroupKind + Copy>(
                 let mut store = Packed::new(format, octets.as_mut_slice());
                 with_store(rt, script, format, &mut store)?;
             }
+            // `next_if` lets no other through.
             _ => (),
         }
     }

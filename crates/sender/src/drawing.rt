@@ -25,6 +25,7 @@ pub(crate) struct Written {
 impl<K: GroupKind + Copy> Sending<K> {
     /// A part before its first packet, which has this sequence number: refusal 4 outside the limits, then 5 for a field that the format
     /// does not have.
+    // Format, timestamp and field are what an opening names, by the project's rule.
     pub fn open(
         format: Format<K>,
         timestamp: u32,

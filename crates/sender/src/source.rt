@@ -32,7 +32,7 @@ pub(crate) struct Source<'a, K: GroupKind, S: Store> {
     ghost groups_are: { groups ≡ groups_of (part_of K.GroupKind.kind part.now) },
 }
 
-// By hand: neither is derived for a struct with a ghost field.
+// By hand: `derive` asks `Copy` of K and S, and `derive_where` is refused for a struct with a ghost field.
 impl<K: GroupKind, S: Store> Copy for Source<'_, K, S> {}
 
 impl<K: GroupKind, S: Store> Clone for Source<'_, K, S> {
