@@ -10,46 +10,23 @@ mod task;
 use fmtp::Listing;
 use packet::Given;
 use records::Record;
-use reports::{FormatTask, Refused, with_format};
+use reports::{FormatTask, Refused, Stream, with_format};
 use std::io::{BufRead, BufReader};
 use std::{env, str};
 use task::{Describe, ReadPacket};
-
-/// How a stream is told apart from others: its payload type and its SSRC.
-#[derive(Clone, Copy)]
-struct Stream {
-    payload_type: u8,
-    ssrc: u32,
-}
-
-impl Stream {
-    // What the program's arguments give, and else 96 and 1.
-    fn from_args(rt: &HostRuntime) -> anyhow::Result<Stream> {
-        let mut words = env::args(rt)?;
-        let _program = words.next();
-        let payload_type = match words.next() {
-            Some(word) => word.as_str().parse::<u8>()?,
-            None => 96,
-        };
-        let ssrc = match words.next() {
-            Some(word) => word.as_str().parse::<u32>()?,
-            None => 1,
-        };
-        Ok(Stream { payload_type, ssrc })
-    }
-}
 
 fn main(rt: HostRuntime) -> anyhow::Result<()> {
     run(&rt)
 }
 
 fn run(rt: &HostRuntime) -> anyhow::Result<()> {
-    let stream = Stream::from_args(rt)?;
+    let stream = given_stream(rt)?;
     let mut last: Option<Record> = None;
     let lines = BufReader::new(rt.alloc(), rt.stdin())?.split(rt.alloc(), b'\n');
     for (i, line) in lines.enumerate() {
         let line = line?;
-        let line = without_return(&line);
+        // A line of a session description ends in a carriage return.
+        let line = line.strip_suffix(b"\r").unwrap_or(&line);
         let number = i.saturating_add(1);
         println!(rt; "line {number}:")?;
         match line.strip_prefix(b"packet ") {
@@ -61,17 +38,26 @@ fn run(rt: &HostRuntime) -> anyhow::Result<()> {
     Ok(())
 }
 
-// A line of a session description ends in a carriage return.
-fn without_return(line: &[u8]) -> &[u8] {
-    line.strip_suffix(b"\r").unwrap_or(line)
+// The stream that the program's arguments give.
+fn given_stream(rt: &HostRuntime) -> anyhow::Result<Stream> {
+    let mut words = env::args(rt)?;
+    let _program = words.next();
+    let payload_type = match words.next() {
+        Some(word) => word.as_str().parse::<u8>()?,
+        None => 96,
+    };
+    let ssrc = match words.next() {
+        Some(word) => word.as_str().parse::<u32>()?,
+        None => 1,
+    };
+    Ok(Stream { payload_type, ssrc })
 }
 
 // Says what a format line announces, and hands its record on.
 fn announce(rt: &HostRuntime, line: &[u8], stream: Stream) -> anyhow::Result<Option<Record>> {
     match fmtp::read(line) {
         Ok(record) => {
-            let listing = Listing(&record);
-            print!(rt; "{listing}")?;
+            print!(rt; "{}", Listing(&record))?;
             perform(rt, &record, stream, &mut Describe { rt })?;
             Ok(Some(record))
         }
@@ -89,7 +75,7 @@ fn perform<T: FormatTask<Out = anyhow::Result<()>>>(
     stream: Stream,
     task: &mut T,
 ) -> anyhow::Result<()> {
-    match with_format(record, stream.payload_type, stream.ssrc, task) {
+    match with_format(record, stream, task) {
         Ok(done) => done,
         Err(refusal) => Ok(println!(rt; "format         {}", Refused(refusal))?),
     }

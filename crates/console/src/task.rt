@@ -3,8 +3,7 @@
 use crate::packet::Given;
 use formats::{Format, Part, SampledKind};
 use hex::FromHexError;
-use packets::Packet;
-use reports::{Contents, FormatTask, Geometry, Refused};
+use reports::{FormatTask, Geometry, Reading};
 
 /// Says what follows from the format.
 #[derive(Drop)]
@@ -49,10 +48,10 @@ impl FormatTask for ReadPacket<'_> {
             timestamp: self.given.timestamp,
             field: self.given.field,
         };
-        match Packet::read(&octets, &part) {
-            Ok(packet) => print!(rt; "{}", Contents(&packet))?,
-            Err(refusal) => println!(rt; "{}", Refused(refusal))?,
-        }
-        Ok(())
+        let reading = Reading {
+            packet: &octets,
+            part: &part,
+        };
+        Ok(print!(rt; "{reading}")?)
     }
 }

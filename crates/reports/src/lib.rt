@@ -3,10 +3,12 @@
 
 mod contents;
 mod geometry;
+mod reading;
 mod refused;
 mod task;
 
 pub use contents::Contents;
 pub use geometry::Geometry;
+pub use reading::Reading;
 pub use refused::Refused;
-pub use task::{FormatTask, with_format};
+pub use task::{FormatTask, Stream, with_format};

@@ -1,6 +1,7 @@
 //! The commands of a script, one a line: words that blanks part.
 
 use formats::{Format, Part};
+use reports::Stream;
 
 /// How a store keeps its frame.
 #[derive(Clone, Copy)]
@@ -35,22 +36,14 @@ impl PartName {
     }
 }
 
-/// A stream as it is given: its payload type, its SSRC and its format line.
-#[derive(Clone, Copy)]
-pub struct Stream<'a> {
-    pub payload_type: u8,
-    pub ssrc: u32,
-    pub line: &'a str,
-}
-
 #[derive(Clone, Copy)]
 pub enum Command<'a> {
     /// Both moves, from beginning to end.
     Demo,
     /// How long a frame takes, sent and taken.
     Time,
-    /// Begins a stream.
-    Format(Stream<'a>),
+    /// Begins a stream with a format line.
+    Format(Stream, &'a str),
     /// Reads a packet in hex for a part.
     Read(PartName, &'a str),
     /// A new store for the frame.
@@ -159,11 +152,11 @@ fn place_of(words: &str) -> Option<(Place, &str)> {
 fn format_of(words: &str) -> Option<Command<'_>> {
     let (payload_type, words) = first_word(words);
     let (ssrc, line) = first_word(words);
-    Some(Command::Format(Stream {
+    let stream = Stream {
         payload_type: payload_type.parse::<u8>().ok()?,
         ssrc: ssrc.parse::<u32>().ok()?,
-        line,
-    }))
+    };
+    Some(Command::Format(stream, line))
 }
 
 fn read_of(words: &str) -> Option<Command<'_>> {

@@ -8,9 +8,8 @@ use crate::store::put_ramp;
 use formats::{Format, Mode, Part, Scan};
 use kinds::{GroupKind, Ycc420, Ycc422};
 use packed::Packed;
-use packets::Packet;
 use receiver::{Idle, Open};
-use reports::{Contents, Refused};
+use reports::{Reading, Refused};
 use stores::{Planar, Store};
 
 const TIMESTAMP: u32 = 900_000;
@@ -96,10 +95,7 @@ fn send<K: GroupKind + Copy, C: Store>(
     let keep = |packet: &[u8]| -> anyhow::Result<()> {
         let length = packet.len();
         println!(rt; "out, octets {length}")?;
-        match Packet::read(packet, part) {
-            Ok(packet) => print!(rt; "{}", Contents(&packet))?,
-            Err(refusal) => println!(rt; "{}", Refused(refusal))?,
-        }
+        print!(rt; "{}", Reading { packet, part })?;
         Ok(packets.push(packet.to_vec(rt.alloc())?)?)
     };
     match draw_all(part, camera, SEQUENCE, keep)? {
@@ -156,11 +152,11 @@ fn differences<C: Store, M: Store>(camera: &C, monitor: &M) -> usize {
     let mut differ: usize = 0;
     for plane in 0..camera.planes() {
         for row in 0..camera.height(plane) {
-            for column in 0..camera.width(plane) {
-                if value_at(camera, plane, row, column) != value_at(monitor, plane, row, column) {
-                    differ = differ.saturating_add(1);
-                }
-            }
+            let columns = 0..camera.width(plane);
+            let differing = columns.filter(|column| {
+                value_at(camera, plane, row, *column) != value_at(monitor, plane, row, *column)
+            });
+            differ = differ.saturating_add(differing.count());
         }
     }
     differ

@@ -3,8 +3,7 @@
 use formats::Part;
 use hex::FromHexError;
 use kinds::GroupKind;
-use packets::Packet;
-use reports::{Contents, Refused};
+use reports::Reading;
 
 /// The octets of a packet in hex; says so where the text is no such packet.
 pub fn octets_of(rt: &HostRuntime, text: &str) -> anyhow::Result<Option<Vec<u8>>> {
@@ -27,9 +26,9 @@ pub fn print_packet<K: GroupKind>(
     let Some(octets) = octets_of(rt, hex)? else {
         return Ok(());
     };
-    match Packet::read(&octets, part) {
-        Ok(packet) => print!(rt; "{}", Contents(&packet))?,
-        Err(refusal) => println!(rt; "{}", Refused(refusal))?,
-    }
-    Ok(())
+    let reading = Reading {
+        packet: &octets,
+        part,
+    };
+    Ok(print!(rt; "{reading}")?)
 }

@@ -70,7 +70,7 @@ pub fn run_script<'a>(rt: &'a HostRuntime, script: &mut Script<'a>) -> anyhow::R
         match command {
             Command::Demo => demonstrate(rt)?,
             Command::Time => time_frames(rt)?,
-            Command::Format(stream) => with_stream(rt, script, stream)?,
+            Command::Format(stream, line) => with_stream(rt, script, stream, line)?,
             Command::Read(_, _) | Command::Store(_) => {
                 println!(rt; "not done: give a format first")?;
             }

@@ -2,7 +2,7 @@
 
 ghost use Rattle.std.specs.Prelude.{◌≤◌, length};
 
-use crate::command::{Command, Layout, Stream};
+use crate::command::{Command, Layout};
 use crate::reading::print_packet;
 use crate::script::Script;
 use crate::store::with_store;
@@ -10,7 +10,7 @@ use fmtp::Listing;
 use formats::{Format, SampledKind};
 use kinds::GroupKind;
 use packed::Packed;
-use reports::{FormatTask, Geometry, Refused, with_format};
+use reports::{FormatTask, Geometry, Refused, Stream, with_format};
 use stores::Planar;
 
 /// Says what a stream's format line announces, and does the commands of the stream.
@@ -18,19 +18,21 @@ pub fn with_stream<'a>(
     rt: &'a HostRuntime,
     script: &mut Script<'a>,
     stream: Stream,
+    line: &str,
 ) -> anyhow::Result<()>
     ensures { length script.new.rest.now ≤ length script.old.rest.now }
 {
-    let record = match fmtp::read(stream.line.as_bytes()) {
+    let record = match fmtp::read(line.as_bytes()) {
         Ok(record) => record,
         Err(refusal) => return Ok(println!(rt; "{}", Refused(refusal))?),
     };
     print!(rt; "{}", Listing(&record))?;
+    // The script is copied in and out: what a reference in a task ends with is not known behind it.
     let mut commands = Commands {
         rt,
         script: *script,
     };
-    let done = with_format(&record, stream.payload_type, stream.ssrc, &mut commands);
+    let done = with_format(&record, stream, &mut commands);
     *script = commands.script;
     match done {
         Ok(done) => done,

@@ -48,12 +48,26 @@ fn time_packed<K: GroupKind + Copy>(rt: &HostRuntime, format: &Format<K>) -> any
     time_store(rt, format, &mut store, copy)
 }
 
-// How long plain copies of a memory take.
+// How long plain copies of a memory take. Not by `timed`: that both lengths are one stands in this loop, and not in a closure.
 fn time_copy<T: Copy>(rt: &HostRuntime, memory: &[T]) -> anyhow::Result<Duration> {
     let mut target = memory.to_vec(rt.alloc())?;
     let start = Instant::now(rt)?;
     for _ in 0..ROUNDS {
         target.as_mut_slice().copy_from_slice(memory);
+    }
+    Ok(start.elapsed(rt)?)
+}
+
+// How long all rounds of some work take.
+fn timed<F: FnMut() -> anyhow::Result<()>>(
+    rt: &HostRuntime,
+    mut work: F,
+) -> anyhow::Result<Duration>
+    requires { F.IsAlwaysCallable work }
+{
+    let start = Instant::now(rt)?;
+    for _ in 0..ROUNDS {
+        work()?;
     }
     Ok(start.elapsed(rt)?)
 }
@@ -75,18 +89,14 @@ fn time_store<K: GroupKind + Copy, S: Store>(
         Ok(packets.push(packet.to_vec(rt.alloc())?)?)
     })?;
     let mut octets = Vec::new(rt.alloc());
-    let start = Instant::now(rt)?;
-    for _ in 0..ROUNDS {
+    let time = timed(rt, || {
         octets.clear();
-        draw(&part, store, |packet| Ok(octets.extend_from_slice(packet)?))?;
-    }
-    print_time(rt, "send", format, start.elapsed(rt)?, copy)?;
+        draw(&part, store, |packet| Ok(octets.extend_from_slice(packet)?))
+    })?;
+    print_time(rt, "send", format, time, copy)?;
     let mut map = vec![in rt.alloc(); 0u8; part.map_octets()]?;
-    let start = Instant::now(rt)?;
-    for _ in 0..ROUNDS {
-        take(&part, &packets, store, map.as_mut_slice());
-    }
-    print_time(rt, "take", format, start.elapsed(rt)?, copy)
+    let time = timed(rt, || Ok(take(&part, &packets, store, map.as_mut_slice())))?;
+    print_time(rt, "take", format, time, copy)
 }
 
 fn draw<K: GroupKind + Copy, S: Store, F: FnMut(&[u8]) -> anyhow::Result<()>>(
