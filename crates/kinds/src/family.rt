@@ -1,10 +1,8 @@
-//! What a sampling family says of its groups, and the kind that follows from it.
+//! What a sampling family says of its groups, and how the questions of its kind are answered from that.
 
 ghost use Rattle.std.specs.Prelude.{◌≡◌, ℕ, ◌<◌, cond, nat_lt, ◌&&◌, ◌==◌};
 ghost use Rattle.theory.specs.Layouts.{Kind, Layout, LawfulKind};
 ghost use Rattle.kinds.specs.Families.{Follows};
-
-use crate::kind::GroupKind;
 
 /// Where a sample stands: its plane, and its row and column there inside the group.
 #[derive(Clone, Copy, Default)]
@@ -16,12 +14,6 @@ pub(crate) struct Place {
 
 /// A sampling family, in numbers that are the same at each of its depths. Only the columns of a group are by depth.
 pub(crate) trait Family {
-    /// The planes of a picture.
-    const PLANES: usize;
-
-    /// The rows that a group covers.
-    const ROWS: usize;
-
     /// The samples of a group to each of its columns.
     const SAMPLES: usize;
 
@@ -31,24 +23,20 @@ pub(crate) trait Family {
     /// The same of rows.
     const ROW_STEP: usize;
 
-    ghost PLANES: { ℕ };
-
-    ghost ROWS: { ℕ };
-
     ghost SAMPLES: { ℕ };
 
     ghost COLUMN_STEP: { ℕ };
 
     ghost ROW_STEP: { ℕ };
 
-    ghost kind: { Kind };
+    ghost family: { Kind };
 
     /// The layout with the most columns. The others are the front of it.
     ghost widest: { Layout };
 
     /// The columns that a group covers; 0 if the family does not have the depth.
-    fn columns(depth: u8) -> usize
-        ensures { result ≡ (kind.layout depth).columns };
+    fn group_columns(depth: u8) -> usize
+        ensures { result ≡ (family.layout depth).columns };
 
     /// The place of position `k`.
     fn place(k: usize) -> Place
@@ -56,19 +44,51 @@ pub(crate) trait Family {
         ensures row { k < widest.positions → result.row ≡ widest.row k }
         ensures column { k < widest.positions → result.column ≡ widest.column k };
 
-    ghost lawful: { LawfulKind kind };
+    ghost laws: { LawfulKind family };
 
-    ghost counts: { (PLANES ≡ kind.planes) × (ROWS ≡ kind.rows) };
-
-    ghost follows: { (depth : ℕ) → Follows PLANES SAMPLES COLUMN_STEP ROW_STEP widest (kind.layout depth) };
+    ghost follows: { (depth : ℕ) → Follows family.planes SAMPLES COLUMN_STEP ROW_STEP widest (family.layout depth) };
 }
 
-/// How many columns, or rows, of the part there are to one of a plane, where there are so many to one of each plane but the first.
+/// The samples of a group.
 #[inline]
-fn step_of<F: Family>(depth: u8, plane: usize, others: usize) -> usize
-    ensures { result ≡ cond (nat_lt 0 (F.kind.layout depth).columns && nat_lt plane F.PLANES) (cond (plane == 0) 1 others) 0 }
+pub(crate) fn positions<F: Family>(depth: u8) -> usize
+    ensures { result ≡ (F.family.layout depth).positions }
 {
-    if F::columns(depth) == 0 || plane >= F::PLANES {
+    F::SAMPLES * F::group_columns(depth)
+}
+
+/// The octets of a group.
+#[inline]
+pub(crate) fn octets<F: Family>(depth: u8) -> usize
+    ensures { result ≡ (F.family.layout depth).octets }
+{
+    positions::<F>(depth) * usize::from(depth) / 8
+}
+
+/// How many columns of the part there are to one of the plane.
+#[inline]
+pub(crate) fn column_step<F: Family>(depth: u8, plane: usize, planes: usize) -> usize
+    requires { planes ≡ F.family.planes }
+    ensures { result ≡ (F.family.layout depth).column_step plane }
+{
+    step_of::<F>(depth, plane, planes, F::COLUMN_STEP)
+}
+
+/// How many rows of the part there are to one of the plane.
+#[inline]
+pub(crate) fn row_step<F: Family>(depth: u8, plane: usize, planes: usize) -> usize
+    requires { planes ≡ F.family.planes }
+    ensures { result ≡ (F.family.layout depth).row_step plane }
+{
+    step_of::<F>(depth, plane, planes, F::ROW_STEP)
+}
+
+// How many columns, or rows, of the part there are to one of a plane, where there are so many to one of each plane but the first.
+#[inline]
+fn step_of<F: Family>(depth: u8, plane: usize, planes: usize, others: usize) -> usize
+    ensures { result ≡ cond (nat_lt 0 (F.family.layout depth).columns && nat_lt plane planes) (cond (plane == 0) 1 others) 0 }
+{
+    if F::group_columns(depth) == 0 || plane >= planes {
         0
     } else if plane == 0 {
         1
@@ -79,64 +99,14 @@ fn step_of<F: Family>(depth: u8, plane: usize, others: usize) -> usize
 
 /// The place of position `k`; 0 throughout if there is no such position.
 #[inline]
-fn place_at<F: Family>(depth: u8, k: usize) -> Place
-    ensures plane { result.plane ≡ (F.kind.layout depth).plane k }
-    ensures row { result.row ≡ (F.kind.layout depth).row k }
-    ensures column { result.column ≡ (F.kind.layout depth).column k }
+pub(crate) fn place_at<F: Family>(depth: u8, k: usize) -> Place
+    ensures plane { result.plane ≡ (F.family.layout depth).plane k }
+    ensures row { result.row ≡ (F.family.layout depth).row k }
+    ensures column { result.column ≡ (F.family.layout depth).column k }
 {
-    if k < F::SAMPLES * F::columns(depth) {
+    if k < positions::<F>(depth) {
         F::place(k)
     } else {
         Place::default()
-    }
-}
-
-impl<F: Family> GroupKind for F {
-    const PLANES: usize = F::PLANES;
-
-    const ROWS: usize = F::ROWS;
-
-    ghost kind = { λ _. F.kind };
-
-    ghost lawful = { λ _. F.lawful };
-
-    fn plane_count(&self) -> usize {
-        F::PLANES
-    }
-
-    fn group_rows(&self) -> usize {
-        F::ROWS
-    }
-
-    fn octets(&self, depth: u8) -> usize {
-        self.positions(depth) * usize::from(depth) / 8
-    }
-
-    fn columns(&self, depth: u8) -> usize {
-        F::columns(depth)
-    }
-
-    fn positions(&self, depth: u8) -> usize {
-        F::SAMPLES * F::columns(depth)
-    }
-
-    fn column_step(&self, depth: u8, plane: usize) -> usize {
-        step_of::<F>(depth, plane, F::COLUMN_STEP)
-    }
-
-    fn row_step(&self, depth: u8, plane: usize) -> usize {
-        step_of::<F>(depth, plane, F::ROW_STEP)
-    }
-
-    fn position_plane(&self, depth: u8, k: usize) -> usize {
-        place_at::<F>(depth, k).plane
-    }
-
-    fn position_row(&self, depth: u8, k: usize) -> usize {
-        place_at::<F>(depth, k).row
-    }
-
-    fn position_column(&self, depth: u8, k: usize) -> usize {
-        place_at::<F>(depth, k).column
     }
 }

@@ -5,7 +5,8 @@ ghost use Rattle.theory.specs.Kinds.{full_layout, half_layout, key, key_layout, 
 ghost use Rattle.theory.proofs.Lawfulness.{standard_kinds};
 ghost use Rattle.kinds.specs.Laws.{lawful_full, follows_deep, follows_full, follows_half, follows_key, follows_quarter};
 
-use crate::family::{Family, Place};
+use crate::family::{Family, Place, column_step, octets, place_at, positions, row_step};
+use crate::kind::GroupKind;
 
 /// YCbCr, CLYCbCr and ICtCp at 4:4:4: planes 1, 0 and 2 of each column.
 #[derive(Clone, Copy)]
@@ -43,22 +44,66 @@ fn full_columns(depth: u8) -> usize
     }
 }
 
-// 4:4:4, RGB and XYZ state the same numbers: a trait for the three would owe each of their laws again and state the numbers once more, which is
-// no plainer.
-impl Family for Ycc444 {
+// Each kind has an implementation of its own, and not one for all families: the constants of a generic one are not evaluated, so a caller could
+// neither take them for an array's length nor know what they are.
+impl GroupKind for Ycc444 {
     const PLANES: usize = 3;
 
     const ROWS: usize = 1;
 
+    ghost kind = { λ _. ycc444 };
+
+    ghost lawful = { λ _. lawful_full _ true refl refl };
+
+    fn plane_count(&self) -> usize {
+        Self::PLANES
+    }
+
+    fn group_rows(&self) -> usize {
+        Self::ROWS
+    }
+
+    fn octets(&self, depth: u8) -> usize {
+        octets::<Self>(depth)
+    }
+
+    fn columns(&self, depth: u8) -> usize {
+        Self::group_columns(depth)
+    }
+
+    fn positions(&self, depth: u8) -> usize {
+        positions::<Self>(depth)
+    }
+
+    fn column_step(&self, depth: u8, plane: usize) -> usize {
+        column_step::<Self>(depth, plane, Self::PLANES)
+    }
+
+    fn row_step(&self, depth: u8, plane: usize) -> usize {
+        row_step::<Self>(depth, plane, Self::PLANES)
+    }
+
+    fn position_plane(&self, depth: u8, k: usize) -> usize {
+        place_at::<Self>(depth, k).plane
+    }
+
+    fn position_row(&self, depth: u8, k: usize) -> usize {
+        place_at::<Self>(depth, k).row
+    }
+
+    fn position_column(&self, depth: u8, k: usize) -> usize {
+        place_at::<Self>(depth, k).column
+    }
+}
+
+// 4:4:4, RGB and XYZ state the same numbers: a trait for the three would owe each of their laws again and state the numbers once more, which is
+// no plainer.
+impl Family for Ycc444 {
     const SAMPLES: usize = 3;
 
     const COLUMN_STEP: usize = 1;
 
     const ROW_STEP: usize = 1;
-
-    ghost PLANES = { ycc444.planes };
-
-    ghost ROWS = { ycc444.rows };
 
     ghost SAMPLES = { 3 };
 
@@ -66,17 +111,15 @@ impl Family for Ycc444 {
 
     ghost ROW_STEP = { 1 };
 
-    ghost kind = { ycc444 };
+    ghost family = { ycc444 };
 
     ghost widest = { full_layout (1 ∷ 0 ∷ 2 ∷ []) 15 4 };
 
-    ghost lawful = { lawful_full _ true refl refl };
-
-    ghost counts = { (refl, refl) };
+    ghost laws = { lawful_full _ true refl refl };
 
     ghost follows = { follows_full (1 ∷ 0 ∷ 2 ∷ []) };
 
-    fn columns(depth: u8) -> usize {
+    fn group_columns(depth: u8) -> usize {
         full_columns(depth)
     }
 
@@ -94,20 +137,62 @@ impl Family for Ycc444 {
     }
 }
 
-impl Family for Rgb {
+impl GroupKind for Rgb {
     const PLANES: usize = 3;
 
     const ROWS: usize = 1;
 
+    ghost kind = { λ _. rgb };
+
+    ghost lawful = { λ _. lawful_full _ true refl refl };
+
+    fn plane_count(&self) -> usize {
+        Self::PLANES
+    }
+
+    fn group_rows(&self) -> usize {
+        Self::ROWS
+    }
+
+    fn octets(&self, depth: u8) -> usize {
+        octets::<Self>(depth)
+    }
+
+    fn columns(&self, depth: u8) -> usize {
+        Self::group_columns(depth)
+    }
+
+    fn positions(&self, depth: u8) -> usize {
+        positions::<Self>(depth)
+    }
+
+    fn column_step(&self, depth: u8, plane: usize) -> usize {
+        column_step::<Self>(depth, plane, Self::PLANES)
+    }
+
+    fn row_step(&self, depth: u8, plane: usize) -> usize {
+        row_step::<Self>(depth, plane, Self::PLANES)
+    }
+
+    fn position_plane(&self, depth: u8, k: usize) -> usize {
+        place_at::<Self>(depth, k).plane
+    }
+
+    fn position_row(&self, depth: u8, k: usize) -> usize {
+        place_at::<Self>(depth, k).row
+    }
+
+    fn position_column(&self, depth: u8, k: usize) -> usize {
+        place_at::<Self>(depth, k).column
+    }
+}
+
+impl Family for Rgb {
     const SAMPLES: usize = 3;
 
     const COLUMN_STEP: usize = 1;
 
     const ROW_STEP: usize = 1;
-
-    ghost PLANES = { rgb.planes };
-
-    ghost ROWS = { rgb.rows };
 
     ghost SAMPLES = { 3 };
 
@@ -115,17 +200,15 @@ impl Family for Rgb {
 
     ghost ROW_STEP = { 1 };
 
-    ghost kind = { rgb };
+    ghost family = { rgb };
 
     ghost widest = { full_layout (0 ∷ 1 ∷ 2 ∷ []) 15 4 };
 
-    ghost lawful = { lawful_full _ true refl refl };
-
-    ghost counts = { (refl, refl) };
+    ghost laws = { lawful_full _ true refl refl };
 
     ghost follows = { follows_full (0 ∷ 1 ∷ 2 ∷ []) };
 
-    fn columns(depth: u8) -> usize {
+    fn group_columns(depth: u8) -> usize {
         full_columns(depth)
     }
 
@@ -138,20 +221,62 @@ impl Family for Rgb {
     }
 }
 
-impl Family for Xyz {
+impl GroupKind for Xyz {
     const PLANES: usize = Rgb::PLANES;
 
     const ROWS: usize = Rgb::ROWS;
 
+    ghost kind = { λ _. xyz };
+
+    ghost lawful = { λ _. lawful_full _ false refl refl };
+
+    fn plane_count(&self) -> usize {
+        Self::PLANES
+    }
+
+    fn group_rows(&self) -> usize {
+        Self::ROWS
+    }
+
+    fn octets(&self, depth: u8) -> usize {
+        octets::<Self>(depth)
+    }
+
+    fn columns(&self, depth: u8) -> usize {
+        Self::group_columns(depth)
+    }
+
+    fn positions(&self, depth: u8) -> usize {
+        positions::<Self>(depth)
+    }
+
+    fn column_step(&self, depth: u8, plane: usize) -> usize {
+        column_step::<Self>(depth, plane, Self::PLANES)
+    }
+
+    fn row_step(&self, depth: u8, plane: usize) -> usize {
+        row_step::<Self>(depth, plane, Self::PLANES)
+    }
+
+    fn position_plane(&self, depth: u8, k: usize) -> usize {
+        place_at::<Self>(depth, k).plane
+    }
+
+    fn position_row(&self, depth: u8, k: usize) -> usize {
+        place_at::<Self>(depth, k).row
+    }
+
+    fn position_column(&self, depth: u8, k: usize) -> usize {
+        place_at::<Self>(depth, k).column
+    }
+}
+
+impl Family for Xyz {
     const SAMPLES: usize = Rgb::SAMPLES;
 
     const COLUMN_STEP: usize = Rgb::COLUMN_STEP;
 
     const ROW_STEP: usize = Rgb::ROW_STEP;
-
-    ghost PLANES = { xyz.planes };
-
-    ghost ROWS = { xyz.rows };
 
     ghost SAMPLES = { 3 };
 
@@ -159,18 +284,16 @@ impl Family for Xyz {
 
     ghost ROW_STEP = { 1 };
 
-    ghost kind = { xyz };
+    ghost family = { xyz };
 
     ghost widest = { full_layout (0 ∷ 1 ∷ 2 ∷ []) 9 2 };
 
-    ghost lawful = { lawful_full _ false refl refl };
-
-    ghost counts = { (refl, refl) };
+    ghost laws = { lawful_full _ false refl refl };
 
     ghost follows = { follows_deep };
 
-    fn columns(depth: u8) -> usize {
-        if depth < 12 { 0 } else { Rgb::columns(depth) }
+    fn group_columns(depth: u8) -> usize {
+        if depth < 12 { 0 } else { full_columns(depth) }
     }
 
     fn place(k: usize) -> Place {
@@ -178,20 +301,62 @@ impl Family for Xyz {
     }
 }
 
-impl Family for Ycc422 {
+impl GroupKind for Ycc422 {
     const PLANES: usize = 3;
 
     const ROWS: usize = 1;
 
+    ghost kind = { λ _. ycc422 };
+
+    ghost lawful = { λ _. standard_kinds.ycc422_lawful };
+
+    fn plane_count(&self) -> usize {
+        Self::PLANES
+    }
+
+    fn group_rows(&self) -> usize {
+        Self::ROWS
+    }
+
+    fn octets(&self, depth: u8) -> usize {
+        octets::<Self>(depth)
+    }
+
+    fn columns(&self, depth: u8) -> usize {
+        Self::group_columns(depth)
+    }
+
+    fn positions(&self, depth: u8) -> usize {
+        positions::<Self>(depth)
+    }
+
+    fn column_step(&self, depth: u8, plane: usize) -> usize {
+        column_step::<Self>(depth, plane, Self::PLANES)
+    }
+
+    fn row_step(&self, depth: u8, plane: usize) -> usize {
+        row_step::<Self>(depth, plane, Self::PLANES)
+    }
+
+    fn position_plane(&self, depth: u8, k: usize) -> usize {
+        place_at::<Self>(depth, k).plane
+    }
+
+    fn position_row(&self, depth: u8, k: usize) -> usize {
+        place_at::<Self>(depth, k).row
+    }
+
+    fn position_column(&self, depth: u8, k: usize) -> usize {
+        place_at::<Self>(depth, k).column
+    }
+}
+
+impl Family for Ycc422 {
     const SAMPLES: usize = 2;
 
     const COLUMN_STEP: usize = 2;
 
     const ROW_STEP: usize = 1;
-
-    ghost PLANES = { ycc422.planes };
-
-    ghost ROWS = { ycc422.rows };
 
     ghost SAMPLES = { 2 };
 
@@ -199,17 +364,15 @@ impl Family for Ycc422 {
 
     ghost ROW_STEP = { 1 };
 
-    ghost kind = { ycc422 };
+    ghost family = { ycc422 };
 
     ghost widest = { half_layout 4 };
 
-    ghost lawful = { standard_kinds.ycc422_lawful };
-
-    ghost counts = { (refl, refl) };
+    ghost laws = { standard_kinds.ycc422_lawful };
 
     ghost follows = { follows_half };
 
-    fn columns(depth: u8) -> usize {
+    fn group_columns(depth: u8) -> usize {
         match depth {
             8 | 10 | 12 | 16 => 2,
             _ => 0,
@@ -231,20 +394,62 @@ impl Family for Ycc422 {
     }
 }
 
-impl Family for Ycc420 {
+impl GroupKind for Ycc420 {
     const PLANES: usize = 3;
 
     const ROWS: usize = 2;
 
+    ghost kind = { λ _. ycc420 };
+
+    ghost lawful = { λ _. standard_kinds.ycc420_lawful };
+
+    fn plane_count(&self) -> usize {
+        Self::PLANES
+    }
+
+    fn group_rows(&self) -> usize {
+        Self::ROWS
+    }
+
+    fn octets(&self, depth: u8) -> usize {
+        octets::<Self>(depth)
+    }
+
+    fn columns(&self, depth: u8) -> usize {
+        Self::group_columns(depth)
+    }
+
+    fn positions(&self, depth: u8) -> usize {
+        positions::<Self>(depth)
+    }
+
+    fn column_step(&self, depth: u8, plane: usize) -> usize {
+        column_step::<Self>(depth, plane, Self::PLANES)
+    }
+
+    fn row_step(&self, depth: u8, plane: usize) -> usize {
+        row_step::<Self>(depth, plane, Self::PLANES)
+    }
+
+    fn position_plane(&self, depth: u8, k: usize) -> usize {
+        place_at::<Self>(depth, k).plane
+    }
+
+    fn position_row(&self, depth: u8, k: usize) -> usize {
+        place_at::<Self>(depth, k).row
+    }
+
+    fn position_column(&self, depth: u8, k: usize) -> usize {
+        place_at::<Self>(depth, k).column
+    }
+}
+
+impl Family for Ycc420 {
     const SAMPLES: usize = 3;
 
     const COLUMN_STEP: usize = 2;
 
     const ROW_STEP: usize = 2;
-
-    ghost PLANES = { ycc420.planes };
-
-    ghost ROWS = { ycc420.rows };
 
     ghost SAMPLES = { 3 };
 
@@ -252,17 +457,15 @@ impl Family for Ycc420 {
 
     ghost ROW_STEP = { 2 };
 
-    ghost kind = { ycc420 };
+    ghost family = { ycc420 };
 
     ghost widest = { quarter_layout 15 4 };
 
-    ghost lawful = { standard_kinds.ycc420_lawful };
-
-    ghost counts = { (refl, refl) };
+    ghost laws = { standard_kinds.ycc420_lawful };
 
     ghost follows = { follows_quarter };
 
-    fn columns(depth: u8) -> usize {
+    fn group_columns(depth: u8) -> usize {
         match depth {
             8 | 12 => 2,
             10 => 4,
@@ -285,20 +488,62 @@ impl Family for Ycc420 {
     }
 }
 
-impl Family for Key {
+impl GroupKind for Key {
     const PLANES: usize = 1;
 
     const ROWS: usize = 1;
 
+    ghost kind = { λ _. key };
+
+    ghost lawful = { λ _. standard_kinds.key_lawful };
+
+    fn plane_count(&self) -> usize {
+        Self::PLANES
+    }
+
+    fn group_rows(&self) -> usize {
+        Self::ROWS
+    }
+
+    fn octets(&self, depth: u8) -> usize {
+        octets::<Self>(depth)
+    }
+
+    fn columns(&self, depth: u8) -> usize {
+        Self::group_columns(depth)
+    }
+
+    fn positions(&self, depth: u8) -> usize {
+        positions::<Self>(depth)
+    }
+
+    fn column_step(&self, depth: u8, plane: usize) -> usize {
+        column_step::<Self>(depth, plane, Self::PLANES)
+    }
+
+    fn row_step(&self, depth: u8, plane: usize) -> usize {
+        row_step::<Self>(depth, plane, Self::PLANES)
+    }
+
+    fn position_plane(&self, depth: u8, k: usize) -> usize {
+        place_at::<Self>(depth, k).plane
+    }
+
+    fn position_row(&self, depth: u8, k: usize) -> usize {
+        place_at::<Self>(depth, k).row
+    }
+
+    fn position_column(&self, depth: u8, k: usize) -> usize {
+        place_at::<Self>(depth, k).column
+    }
+}
+
+impl Family for Key {
     const SAMPLES: usize = 1;
 
     const COLUMN_STEP: usize = 1;
 
     const ROW_STEP: usize = 1;
-
-    ghost PLANES = { key.planes };
-
-    ghost ROWS = { key.rows };
 
     ghost SAMPLES = { 1 };
 
@@ -306,17 +551,15 @@ impl Family for Key {
 
     ghost ROW_STEP = { 1 };
 
-    ghost kind = { key };
+    ghost family = { key };
 
     ghost widest = { key_layout 5 4 };
 
-    ghost lawful = { standard_kinds.key_lawful };
-
-    ghost counts = { (refl, refl) };
+    ghost laws = { standard_kinds.key_lawful };
 
     ghost follows = { follows_key };
 
-    fn columns(depth: u8) -> usize {
+    fn group_columns(depth: u8) -> usize {
         full_columns(depth)
     }
 
