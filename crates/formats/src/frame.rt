@@ -30,7 +30,7 @@ impl<K: GroupKind + Copy> Format<K> {
         ensures { result ≡ planar_words (format_of K.GroupKind.kind self.now) }
     {
         let frame = self.frame();
-        (0..3).map(|plane| frame.plane_area(plane)).sum()
+        frame.plane_area(0) + frame.plane_area(1) + frame.plane_area(2)
     }
 
     /// Octets of a frame that is kept as on the wire, group after group.

@@ -10,7 +10,7 @@ use Rattle.theory.specs.Formats.{Part, map_octets, lawful_format, lawful_field}
 use Rattle.theory.specs.Pictures.{Picture, fits_part}
 use Rattle.theory.specs.Taking.{open_refusal, map_after_opening, opened_map, count_refusal, survey_refusal}
 use Rattle.theory.proofs.Steps.{opening_allowed}
-use Rattle.receiver.specs.Opening.{length_check, opening}
+use Rattle.receiver.specs.Opening.{opening}
 
 -- a refusal that is handed on: what it answers, and what is kept
 pub handed_on : {T : Type 0} (e : Refusal) (a : Result T ℕ) (r : Result T Refusal) → IsErrAnd r (λ y. y ≡ e) → Err (number_of e) ≡ a → numbered r ≡ a
@@ -54,11 +54,6 @@ format_first : (l s : Bool) (n : ℕ) → Err n ≡ format_said l → Err n ≡ 
 format_first true s n e = cc
 format_first false s n e = e
 
-then_map : (l s : Bool) → Ok tt ≡ format_said l → cond s (Err 6) (Ok tt) ≡ verdict (two_rows l s)
-then_map true true e = refl
-then_map true false e = refl
-then_map false s e = cc
-
 map_first : (l s k : Bool) (n : ℕ) → Err n ≡ verdict (two_rows l s) → Err n ≡ verdict (two_rows l (not k || s))
 map_first false s k n e = e
 map_first true true true n e = e
@@ -81,9 +76,6 @@ module _ (t : Part) (m : List ℕ) where
 
   pub format_refused : (n : ℕ) → Err n ≡ format_check t.format → Err n ≡ verdict (count_refusal t m)
   format_refused = format_first (lawful_format t.format) (ltb (length m) (map_octets t))
-
-  pub map_checked : Ok tt ≡ format_check t.format → length_check t m ≡ verdict (count_refusal t m)
-  map_checked = then_map (lawful_format t.format) (ltb (length m) (map_octets t))
 
   module _ (v : Picture) where
     pub map_refused : (n : ℕ) → Err n ≡ verdict (count_refusal t m) → Err n ≡ verdict (survey_refusal t v m)

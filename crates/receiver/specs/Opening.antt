@@ -1,19 +1,15 @@
 -- What opening a part answers, and the part that is open then.
-use Rattle.std.specs.Prelude.{ℕ, cond, List, length, Ok, Err, Result, nat_lt}
+use Rattle.std.specs.Prelude.{ℕ, List, Ok, Err, Result}
 use Rattle.formats.specs.Meaning.{part_of}
 use Rattle.formats.specs.declared.format.Format.{Format}
 use Rattle.refusals.specs.declared.Refusal.{Refusal}
 use Rattle.refusals.specs.Numbers.{number_of}
 use Rattle.theory.specs.Answers.{unless}
 use Rattle.theory.specs.Layouts.{Kind}
-use Rattle.theory.specs.Formats.{Part, map_octets}
+use Rattle.theory.specs.Formats.{Part}
 use Rattle.theory.specs.Taking.{open_refusal}
 use Rattle.receiver.specs.declared.states.Idle.{Idle}
 use Rattle.receiver.specs.declared.states.Open.{Open}
-
--- 6 where the map is too short for the part
-abbrev pub length_check : Part → List ℕ → Result (Unit {0}) ℕ
-length_check t m = cond (nat_lt (length m) (map_octets t)) (Err 6) (Ok tt)
 
 -- the part, or the number of the refusal
 abbrev pub opening : Part → List ℕ → Result Part ℕ

@@ -7,7 +7,7 @@ ghost use Rattle.stores.specs.Keeping.{IfRefused};
 ghost use Rattle.theory.specs.Answers.{verdict};
 ghost use Rattle.theory.specs.Octets.{AllOctets};
 ghost use Rattle.theory.specs.Taking.{open_refusal, map_after_opening, count_refusal, survey_refusal, offer_answer, picture_after, map_after, count_answer, survey_answer};
-ghost use Rattle.receiver.specs.Opening.{length_check, opening, outcome, part_open, part_with};
+ghost use Rattle.receiver.specs.Opening.{opening, outcome, part_open, part_with};
 ghost use Rattle.receiver.specs.Histories.{Begins, LawHolds, CountsUnnamed, SurveysUnnamed};
 
 use crate::map::{clear_bits, reset};
@@ -126,7 +126,10 @@ impl<K: GroupKind> Open<K> {
         ensures octets { AllOctets map.now }
     {
         self.part.format.check()?;
-        check_length(&self.part, map)
+        if map.len() < self.part.map_octets() {
+            return Err(Refusal::StoreOrMapUnfit);
+        }
+        Ok(())
     }
 }
 
@@ -136,13 +139,6 @@ fn check_opening<K: GroupKind>(part: &Part<K>, map: &[u8]) -> Result<(), Refusal
     ensures octets { AllOctets map.now }
 {
     part.check()?;
-    check_length(part, map)
-}
-
-// Refusal 6 for a map that is too short.
-fn check_length<K: GroupKind>(part: &Part<K>, map: &[u8]) -> Result<(), Refusal>
-    ensures { numbered result ≡ length_check (part_of K.GroupKind.kind part.now) map.now }
-{
     if map.len() < part.map_octets() {
         return Err(Refusal::StoreOrMapUnfit);
     }
