@@ -1,4 +1,5 @@
 pub mod Decimal
+pub mod Folds
 pub mod Order
 pub mod Pieces
 pub mod Steps

@@ -53,7 +53,9 @@ impl<'a> Entry<'a> {
 fn all_visible(text: &[u8]) -> bool
     ensures { result ≡ list_all visible text.now }
 {
-    text.iter().all(|&octet| is_visible(octet))
+    // fold, since it vectorises: with all, which leaves early, a line of 130 octets takes half as long again to read
+    text.iter()
+        .fold(true, |all, &octet| all & is_visible(octet))
 }
 
 fn is_visible(octet: u8) -> bool
@@ -84,6 +86,8 @@ impl<'a> Iterator for Entries<'a> {
 
     ghost remaining = { item_count entries_left };
 
+    // inlined into each walk over a line's entries, of which reading makes some thirty
+    #[inline(always)]
     fn next(&mut self) -> Option<Entry<'a>> {
         let (piece, rest) = split_at_first(self.rest.take()?, b';');
         let entry = Entry::parse(without_blanks(piece))?;

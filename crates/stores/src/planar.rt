@@ -79,11 +79,12 @@ impl<'a> Planar<'a> {
         ensures places { result ≡ ok_or (first_word (blank self.now.shape) plane row column count) NoSuchPlace }
         ensures within { IfOk result (λ at. at + count ≤ shape_words self.now.shape) }
     {
-        let plane = self.shape.plane(plane);
-        if !plane.size.has_columns(row, column, count) {
-            return Err(Refusal::NoSuchPlace);
+        match self.shape.planes.get(plane) {
+            Some(plane) if plane.size.has_columns(row, column, count) => {
+                Ok(plane.start + row * plane.size.width + column)
+            }
+            _ => Err(Refusal::NoSuchPlace),
         }
-        Ok(plane.start + row * plane.size.width + column)
     }
 
     // The sample in a word.
