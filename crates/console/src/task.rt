@@ -2,7 +2,6 @@
 
 use crate::packet::Given;
 use formats::{Format, Part, SampledKind};
-use hex::FromHexError;
 use reports::{FormatTask, Geometry, Reading};
 
 /// Says what follows from the format.
@@ -35,13 +34,8 @@ impl FormatTask for ReadPacket<'_> {
 
     fn run<K: SampledKind + Copy>(&mut self, format: &Format<K>) -> anyhow::Result<()> {
         let rt = self.rt;
-        let octets = match hex::decode(rt.alloc(), self.given.hex) {
-            Ok(octets) => octets,
-            Err(error @ FromHexError::OutOfMemory) => return Err(error.into()),
-            Err(_) => {
-                println!(rt; "not understood: a packet is an even number of hex digits")?;
-                return Ok(());
-            }
+        let Some(octets) = octets_of(rt, self.given.hex)? else {
+            return Ok(());
         };
         let part = Part {
             format: *format,
@@ -54,4 +48,16 @@ impl FormatTask for ReadPacket<'_> {
         };
         Ok(print!(rt; "{reading}")?)
     }
+}
+
+// The octets of a packet in hex; says so where the text is no such packet, which needs no memory.
+fn octets_of(rt: &HostRuntime, text: &str) -> anyhow::Result<Option<Vec<u8>>> {
+    if text.len().is_multiple_of(2) && text.bytes().all(|digit| digit.is_ascii_hexdigit()) {
+        let mut octets = vec![in rt.alloc(); 0u8; text.len() / 2]?;
+        if hex::decode_to_slice(text, octets.as_mut_slice()).is_ok() {
+            return Ok(Some(octets));
+        }
+    }
+    println!(rt; "not understood: a packet is an even number of hex digits")?;
+    Ok(None)
 }

@@ -4,7 +4,6 @@
 
 use fmtp::read;
 use std::io::{BufRead, BufReader};
-use std::str;
 
 fn main(rt: HostRuntime) -> anyhow::Result<()> {
     let mut agree: u64 = 0;
@@ -14,13 +13,11 @@ fn main(rt: HostRuntime) -> anyhow::Result<()> {
         if row.first() == Some(&b'#') {
             continue;
         }
-        let Some((due, line)) = parted(&row) else {
-            differ = differ.saturating_add(1);
-            println!(rt; "without a number: {row:?}")?;
-            continue;
-        };
+        let (due, line) = parted(&row);
         // 0 is the table's word for a line that is read.
-        let answer = read(line).err().map_or(0, |refusal| refusal.number());
+        let answer = read(line)
+            .err()
+            .map_or(0, |refusal| u32::from(refusal.number()));
         if answer == due {
             agree = agree.saturating_add(1);
         } else {
@@ -32,9 +29,18 @@ fn main(rt: HostRuntime) -> anyhow::Result<()> {
     Ok(())
 }
 
-// The number in front of the first blank, and the line behind it.
-fn parted(row: &[u8]) -> Option<(u8, &[u8])> {
-    let blank = row.iter().position(|octet| *octet == b' ')?;
-    let number = str::from_utf8(&row[..blank]).ok()?.parse::<u8>().ok()?;
-    Some((number, &row[blank + 1..]))
+// The number in front of the first blank, and the line behind it. A row without a blank is all line, and its number is one that nothing gets.
+fn parted(row: &[u8]) -> (u32, &[u8]) {
+    match row.iter().position(|octet| *octet == b' ') {
+        Some(blank) => (number_of(&row[..blank]), &row[blank + 1..]),
+        None => (u32::MAX, row),
+    }
+}
+
+// A decimal number. Whatever else stands there gives some number too, as a row of the table is never refused.
+fn number_of(digits: &[u8]) -> u32 {
+    digits.iter().fold(0, |number: u32, digit| {
+        let value = u32::from(digit.wrapping_sub(b'0'));
+        number.wrapping_mul(10).wrapping_add(value)
+    })
 }

@@ -6,22 +6,17 @@ use packets::Packet;
 use refusals::Refusal;
 
 /// The packet, read for a part of the format that the letter names.
-pub fn read<'a>(
-    letter: &str,
-    timestamp: u32,
-    field: u8,
-    octets: &'a [u8],
-) -> Result<Packet<'a>, Refusal> {
+pub fn read(letter: u8, timestamp: u32, field: u8, octets: &[u8]) -> Result<Packet, Refusal> {
     match letter {
-        "D" | "Y" => Packet::read(octets, &part(Ycc420, letter, timestamp, field)),
-        "E" => Packet::read(octets, &part(Ycc444, letter, timestamp, field)),
-        "F" => Packet::read(octets, &part(Key, letter, timestamp, field)),
-        "G" => Packet::read(octets, &part(Rgb, letter, timestamp, field)),
+        b'D' | b'Y' => Packet::read(octets, &part(Ycc420, letter, timestamp, field)),
+        b'E' => Packet::read(octets, &part(Ycc444, letter, timestamp, field)),
+        b'F' => Packet::read(octets, &part(Key, letter, timestamp, field)),
+        b'G' => Packet::read(octets, &part(Rgb, letter, timestamp, field)),
         _ => Packet::read(octets, &part(Ycc422, letter, timestamp, field)),
     }
 }
 
-fn part<K: GroupKind + Copy>(kind: K, letter: &str, timestamp: u32, field: u8) -> Part<K> {
+fn part<K: GroupKind + Copy>(kind: K, letter: u8, timestamp: u32, field: u8) -> Part<K> {
     Part {
         format: format_of(kind, letter),
         timestamp,
@@ -30,7 +25,7 @@ fn part<K: GroupKind + Copy>(kind: K, letter: &str, timestamp: u32, field: u8) -
 }
 
 // From U on the formats are outside the limits, but for W.
-fn format_of<K: Copy>(kind: K, letter: &str) -> Format<K> {
+fn format_of<K: Copy>(kind: K, letter: u8) -> Format<K> {
     let hd = Format {
         kind,
         depth: 10,
@@ -45,49 +40,49 @@ fn format_of<K: Copy>(kind: K, letter: &str) -> Format<K> {
     let interlaced = Scan::Interlaced as u8;
     let segmented = Scan::Segmented as u8;
     match letter {
-        "A" => hd,
-        "B" => Format { mode: block, ..hd },
-        "C" => Format {
+        b'A' => hd,
+        b'B' => Format { mode: block, ..hd },
+        b'C' => Format {
             height: 1081,
             scan: interlaced,
             ..hd
         },
-        "D" => Format { height: 9, ..hd },
-        "E" => Format {
+        b'D' => Format { height: 9, ..hd },
+        b'E' => Format {
             width: 5,
             height: 4,
             payload_type: 127,
             ..hd
         },
-        "F" => Format {
+        b'F' => Format {
             depth: 8,
             width: 1,
             height: 1,
             ..hd
         },
-        "G" => Format {
+        b'G' => Format {
             depth: 8,
             width: 720,
             height: 486,
             scan: segmented,
             ..hd
         },
-        "U" => Format {
+        b'U' => Format {
             payload_type: 95,
             ..hd
         },
-        "V" => Format {
+        b'V' => Format {
             width: 250,
             mode: block,
             ..hd
         },
-        "W" => Format {
+        b'W' => Format {
             width: 252,
             mode: block,
             ..hd
         },
-        "X" => Format { depth: 9, ..hd },
-        "Y" => Format {
+        b'X' => Format { depth: 9, ..hd },
+        b'Y' => Format {
             scan: interlaced,
             ..hd
         },

@@ -4,6 +4,7 @@ ghost use Rattle.std.specs.Prelude.{◌≤◌, length};
 
 use crate::command::{Command, PartName, Place};
 use crate::part::with_part;
+use crate::reading::InHex;
 use crate::script::Script;
 use crate::sending::draw_all;
 use formats::{Format, Scan};
@@ -87,8 +88,7 @@ fn send<K: GroupKind + Copy, S: Store>(
 ) -> anyhow::Result<()> {
     let part = part.of(format);
     let print = |packet: &[u8]| -> anyhow::Result<()> {
-        let hex = hex::encode_upper(rt.alloc(), packet)?;
-        Ok(println!(rt; "packet {hex}")?)
+        Ok(println!(rt; "packet {}", InHex(packet))?)
     };
     let sent = if format.scan == Scan::Progressive as u8 {
         draw_all(&part, store, sequence, print)?

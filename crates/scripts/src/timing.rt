@@ -31,18 +31,18 @@ pub fn time_frames(rt: &HostRuntime) -> anyhow::Result<()> {
 
 // Two functions, of which each has what its store alone has: its memory, and how it is made over it.
 fn time_planar<K: GroupKind + Copy>(rt: &HostRuntime, format: &Format<K>) -> anyhow::Result<()> {
-    println!(rt; "planar memory")?;
     let mut words = vec![in rt.alloc(); 0u16; format.planar_words()]?;
     let copy = time_copy(rt, &words)?;
+    println!(rt; "planar memory")?;
     print_time(rt, "copy", format, copy, copy)?;
     let mut store = Planar::new(format, words.as_mut_slice());
     time_store(rt, format, &mut store, copy)
 }
 
 fn time_packed<K: GroupKind + Copy>(rt: &HostRuntime, format: &Format<K>) -> anyhow::Result<()> {
-    println!(rt; "packed memory")?;
     let mut octets = vec![in rt.alloc(); 0u8; format.packed_octets()]?;
     let copy = time_copy(rt, &octets)?;
+    println!(rt; "packed memory")?;
     print_time(rt, "copy", format, copy, copy)?;
     let mut store = Packed::new(format, octets.as_mut_slice());
     time_store(rt, format, &mut store, copy)
